@@ -1,0 +1,12 @@
+pub mod Inside
+pub mod RuleLaws
+pub mod OverLaws
+pub mod MaskLaws
+pub mod Due
+pub mod Lowest
+pub mod Sound
+pub mod TableLaws
+pub mod Stands
+pub mod Accepted
+pub mod Cut
+pub mod Acceptance

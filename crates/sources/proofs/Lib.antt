@@ -1,0 +1,5 @@
+mod Among
+mod Counting
+mod Dues
+mod FlagLaws
+mod Answered

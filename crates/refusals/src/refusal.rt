@@ -20,7 +20,7 @@ pub enum Refusal {
     UnfitCell { hold: u32 },
     NoWord { word: u32 },
     WordClass { word: u32 },
-    Broken { address: u32 },
+    Broken { address: usize },
     NoRun { size: u32 },
     InspectorFull { address: u32 },
     TableStart,

@@ -1,7 +1,2 @@
-pub mod Holds
-pub mod Words
-pub mod Rows
-pub mod Calls
-pub mod Known
 pub mod Memory
 pub mod Tokens

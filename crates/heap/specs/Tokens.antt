@@ -7,11 +7,11 @@ use Rattle.std.specs.declared.result.Result.the-variants.{Ok, Err}
 use Rattle.std.specs.declared.option.Option.the-variants.{Some, None}
 use Prim.Native.Nat.{ℕ}
 use Rattle.refusals.specs.declared.refusal.Refusal.{Refusal}
-use Rattle.heap.specs.declared.content.Content.the-variants.{Nothing}
-use Rattle.heap.specs.declared.content.HoldRecord.{HoldRecord}
+use Rattle.cells.specs.declared.content.Content.the-variants.{Nothing}
+use Rattle.cells.specs.declared.content.HoldRecord.{HoldRecord}
 use Rattle.heap.specs.declared.hold.Hold.{Hold}
-use Rattle.heap.specs.Holds.{unheld, holding}
-use Rattle.heap.specs.Calls.{Answers, take-due, held-due}
+use Rattle.cells.specs.Holds.{unheld, holding}
+use Rattle.cells.specs.Calls.{Answers, take-due, held-due}
 
 -- the hold of that number
 abbrev pub Gives : List HoldRecord → ℕ → List HoldRecord → Result Hold Refusal → Type 0

@@ -1,10 +1,5 @@
-// The heap over lent memory, its holds, and every call by hold number and by hold.
-pub mod calls;
-pub mod content;
+// The heap over lent memory, as a type for its state, and holds as values that have to be given back.
 pub mod hold;
-pub mod holds;
 pub mod memory;
 pub mod open;
-mod spot;
 pub mod tokens;
-mod words;

@@ -32,18 +32,6 @@ fn write_new(words: &mut [u32])
 }
 
 impl<'m> Open<'m> {
-    // A new heap, all of whose words but word 0 are one free run. The marks stay as they are.
-    pub fn new(memory: Memory<'m>) -> Result<Open<'m>, (Memory<'m>, Refusal)>
-        ensures { λ r. ⌜ Opens (λ L w. new-words L) (memory .entry) r ⌝ }
-    {
-        if !does_serve(memory.words.len(), memory.marks.len()) {
-            return Err((memory, Refusal::MemorySize));
-        }
-        let Memory { words, marks } = memory;
-        write_new(words);
-        Ok(Open { words, marks })
-    }
-
     // A heap on words and marks as they are.
     pub fn adopt(memory: Memory<'m>) -> Result<Open<'m>, (Memory<'m>, Refusal)>
         ensures { λ r. ⌜ Opens (λ L w. w) (memory .entry) r ⌝ }
@@ -53,6 +41,15 @@ impl<'m> Open<'m> {
         }
         let Memory { words, marks } = memory;
         Ok(Open { words, marks })
+    }
+
+    // A new heap, all of whose words but word 0 are one free run. The marks stay as they are.
+    pub fn new(memory: Memory<'m>) -> Result<Open<'m>, (Memory<'m>, Refusal)>
+        ensures { λ r. ⌜ Opens (λ L w. new-words L) (memory .entry) r ⌝ }
+    {
+        let open = Open::adopt(memory)?;
+        write_new(open.words);
+        Ok(open)
     }
 
     // The memory, taken back.

@@ -1,13 +1,13 @@
 ghost use mathlib.Core.Path.{_≡_};
 ghost use denote.Ref.{name};
-ghost use Rattle.heap.specs.Calls.{Notes, Copies, Tells, Looks, Sets, Puts, Fetches};
+ghost use Rattle.cells.specs.Calls.{Notes, Copies, Tells, Looks, Sets, Puts, Fetches};
 ghost use Rattle.heap.specs.Memory.{Left};
 ghost use Rattle.heap.specs.Tokens.{Gives, Spends};
-use crate::calls;
-use crate::content::Content;
 use crate::hold::Hold;
-use crate::holds::Holds;
 use crate::memory::Open;
+use cells::calls;
+use cells::content::Content;
+use cells::holds::Holds;
 use refusals::refusal::Refusal;
 use sources::source::TemplateSource;
 

@@ -5,10 +5,3 @@ pub enum Content {
     Cell { code: u32, address: u32 },
     Immediate { code: u32, number: u32 },
 }
-
-// One hold: whether it is held, and with what.
-#[derive(Clone, Copy)]
-pub struct HoldRecord {
-    pub(crate) held: bool,
-    pub(crate) content: Content,
-}

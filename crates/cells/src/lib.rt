@@ -1,6 +1,3 @@
-// Holds and the calls by hold number that read and write cells, over any words, hold table and source.
-pub mod calls;
+// What the words of a cell say in any memory, and how a content is written into them.
 pub mod content;
-pub mod holds;
-mod spot;
-mod words;
+pub mod words;

@@ -4,7 +4,9 @@ use mathlib.Core.List.{List, [], _∷_}
 use Prim.Native.Nat.{ℕ, zero, suc, _-_, _*_, _≤_}
 use native.Mathlib.Omega.{arith}
 use lib.ListN.{length, set, replicate, length-set, length-replicate}
-use Rattle.heap.specs.Memory.{new-words}
+use Rattle.std.specs.declared.option.Option.the-variants.{None}
+use Rattle.std.proofs.shelf.Ways.{tells}
+use Rattle.heap.specs.Memory.{row-1, new-words}
 
 same-rest : (k : ℕ) → suc (suc k) - 2 ≡ k
 same-rest k = omega arith
@@ -20,3 +22,6 @@ written-new L zeros h e =
     ap (λ (m : ℕ). set (set zeros 0 1) 1 ((m - 1) * 65536)) n
     ∙ ap (λ (x : List ℕ). set (set x 0 1) 1 ((L - 1) * 65536)) e
     ∙ by-zeros L ((L - 1) * 65536) h
+
+pub served : (L M : ℕ) → row-1 L M ≡ None → (2 ≤ L) × (L ≤ 65536)
+served L M e = (grind (arith, tells), grind (arith, tells))

@@ -14,7 +14,7 @@ use Rattle.refusals.specs.declared.refusal.Refusal.{Refusal}
 use Rattle.refusals.specs.declared.refusal.Refusal.the-variants.{MemorySize}
 use Rattle.heap.specs.declared.memory.Memory.{Memory}
 use Rattle.heap.specs.declared.memory.Open.{Open}
-use Rattle.cells.specs.Rows.{unless}
+use Rattle.calls.specs.Rows.{unless}
 
 -- 1: a heap has 2 to 65,536 words, and as many marks
 abbrev pub row-1 : ℕ → ℕ → Option Refusal

@@ -8,10 +8,10 @@ use Rattle.std.specs.declared.option.Option.the-variants.{Some, None}
 use Prim.Native.Nat.{ℕ}
 use Rattle.refusals.specs.declared.refusal.Refusal.{Refusal}
 use Rattle.cells.specs.declared.content.Content.the-variants.{Nothing}
-use Rattle.cells.specs.declared.content.HoldRecord.{HoldRecord}
+use Rattle.calls.specs.declared.record.HoldRecord.{HoldRecord}
 use Rattle.heap.specs.declared.hold.Hold.{Hold}
-use Rattle.cells.specs.Holds.{unheld, holding}
-use Rattle.cells.specs.Calls.{Answers, take-due, held-due}
+use Rattle.calls.specs.Holds.{unheld, holding}
+use Rattle.calls.specs.Calls.{Answers, take-due, held-due}
 
 -- the hold of that number
 abbrev pub Gives : List HoldRecord → ℕ → List HoldRecord → Result Hold Refusal → Type 0

@@ -1,8 +1,7 @@
 ghost use mathlib.Core.Path.{_≡_};
-ghost use mathlib.Core.Bool.{not};
-ghost use Prim.Native.Nat.{ℕ, _≤_};
 ghost use lib.ListN.{length};
-ghost use Rattle.std.specs.Options.{isSome};
+ghost use Rattle.std.specs.Results.{errPart};
+ghost use Rattle.calls.specs.Calls.{Answers};
 ghost use Rattle.heap.specs.Memory.{row-1, new-words, Left, Opens};
 use crate::memory::Memory;
 use crate::memory::Open;
@@ -16,19 +15,25 @@ pub const MOST_WORDS: usize = 65536;
 // One unit of SIZE in the first word of a free run.
 const SIZE_UNIT: u32 = 65536;
 
-fn does_serve(words: usize, marks: usize) -> bool
-    ensures { λ r. ⌜ isSome (row-1 words marks) ≡ not r ⌝ }
+// Refuses memory that no heap may stand on.
+pub fn check_memory(words: usize, marks: usize) -> Result<(), Refusal>
+    ensures { λ r. ⌜ errPart r ≡ row-1 words marks ⌝ }
 {
-    words >= FEWEST_WORDS && words <= MOST_WORDS && marks == words
+    if words < FEWEST_WORDS || words > MOST_WORDS || marks != words {
+        return Err(Refusal::MemorySize);
+    }
+    Ok(())
 }
 
-fn write_new(words: &mut [u32])
-    requires { ⌜ 2 ≤ length (now words) ⌝ ∗ ⌜ length (now words) ≤ 65536 ⌝ }
-    ensures { λ _. ⌜ now (words .exit) ≡ new-words (length (now (words .entry))) ⌝ }
+// Makes the words those of a new heap, over as many marks.
+pub fn format_words(words: &mut [u32], marks: usize) -> Result<(), Refusal>
+    ensures { λ r. ⌜ Answers (row-1 (length (now (words .entry))) marks) (now (words .exit) ≡ now (words .entry)) (λ _. now (words .exit) ≡ new-words (length (now (words .entry)))) r ⌝ }
 {
+    check_memory(words.len(), marks)?;
     words.fill(0);
     words[0] = 1;
     words[1] = (words.len() as u32 - 1) * SIZE_UNIT;
+    Ok(())
 }
 
 impl<'m> Open<'m> {
@@ -36,20 +41,27 @@ impl<'m> Open<'m> {
     pub fn adopt(memory: Memory<'m>) -> Result<Open<'m>, (Memory<'m>, Refusal)>
         ensures { λ r. ⌜ Opens (λ L w. w) (memory .entry) r ⌝ }
     {
-        if !does_serve(memory.words.len(), memory.marks.len()) {
-            return Err((memory, Refusal::MemorySize));
+        match check_memory(memory.words.len(), memory.marks.len()) {
+            Ok(()) => {
+                let Memory { words, marks } = memory;
+                Ok(Open { words, marks })
+            }
+            Err(refusal) => Err((memory, refusal)),
         }
-        let Memory { words, marks } = memory;
-        Ok(Open { words, marks })
     }
 
     // A new heap, all of whose words but word 0 are one free run. The marks stay as they are.
     pub fn new(memory: Memory<'m>) -> Result<Open<'m>, (Memory<'m>, Refusal)>
         ensures { λ r. ⌜ Opens (λ L w. new-words L) (memory .entry) r ⌝ }
     {
-        let open = Open::adopt(memory)?;
-        write_new(open.words);
-        Ok(open)
+        let marks = memory.marks.len();
+        match format_words(memory.words, marks) {
+            Ok(()) => {
+                let Memory { words, marks } = memory;
+                Ok(Open { words, marks })
+            }
+            Err(refusal) => Err((memory, refusal)),
+        }
     }
 
     // The memory, taken back.

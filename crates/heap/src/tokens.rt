@@ -1,13 +1,13 @@
 ghost use mathlib.Core.Path.{_≡_};
 ghost use denote.Ref.{name};
-ghost use Rattle.cells.specs.Calls.{Notes, Copies, Tells, Looks, Sets, Puts, Fetches};
+ghost use Rattle.calls.specs.Calls.{Notes, Copies, Tells, Looks, Sets, Puts, Fetches};
 ghost use Rattle.heap.specs.Memory.{Left};
 ghost use Rattle.heap.specs.Tokens.{Gives, Spends};
 use crate::hold::Hold;
 use crate::memory::Open;
-use cells::calls;
+use calls::by_number;
+use calls::holds::Holds;
 use cells::content::Content;
-use cells::holds::Holds;
 use refusals::refusal::Refusal;
 use sources::source::TemplateSource;
 
@@ -16,14 +16,14 @@ impl<'m> Open<'m> {
     pub fn take(&self, holds: &mut Holds, number: u32) -> Result<Hold, Refusal>
         ensures { λ r. ⌜ Gives (now (holds .entry) .records) number (now (holds .exit) .records) r ⌝ }
     {
-        calls::take(holds, number)?;
+        by_number::take(holds, number)?;
         Ok(Hold { number })
     }
 
     pub fn release(&self, holds: &mut Holds, hold: Hold) -> Result<(), (Hold, Refusal)>
         ensures { λ r. ⌜ Spends (now (holds .entry) .records) hold (now (holds .exit) .records) r ⌝ }
     {
-        match calls::release(holds, hold.number) {
+        match by_number::release(holds, hold.number) {
             Ok(()) => {
                 let Hold { number: _ } = hold;
                 Ok(())
@@ -42,19 +42,19 @@ impl<'m> Open<'m> {
     ) -> Result<(), Refusal>
         ensures { λ r. ⌜ Notes (S·TemplateSource .meaning (now (source .entry))) (now (holds .entry) .records) (now (hold .entry) .number) code number (now (holds .exit) .records) r ⌝ }
     {
-        calls::note(holds, source, hold.number, code, number)
+        by_number::note(holds, source, hold.number, code, number)
     }
 
     pub fn copy(&self, holds: &mut Holds, from: &Hold, to: &Hold) -> Result<(), Refusal>
         ensures { λ r. ⌜ Copies (now (holds .entry) .records) (now («from» .entry) .number) (now (to .entry) .number) (now (holds .exit) .records) r ⌝ }
     {
-        calls::copy(holds, from.number, to.number)
+        by_number::copy(holds, from.number, to.number)
     }
 
     pub fn tell(&self, holds: &Holds, hold: &Hold) -> Result<Content, Refusal>
         ensures { λ r. ⌜ Tells (now (holds .entry) .records) (now (hold .entry) .number) r ⌝ }
     {
-        calls::tell(holds, hold.number)
+        by_number::tell(holds, hold.number)
     }
 
     pub fn look<S: TemplateSource>(
@@ -66,7 +66,7 @@ impl<'m> Open<'m> {
     ) -> Result<u32, Refusal>
         ensures { λ r. ⌜ Looks (S·TemplateSource .meaning (now (source .entry))) (now (now (self .entry) .words)) (now (holds .entry) .records) (now (hold .entry) .number) word r ⌝ }
     {
-        calls::look(self.words, holds, source, hold.number, word)
+        by_number::look(self.words, holds, source, hold.number, word)
     }
 
     pub fn set<S: TemplateSource>(
@@ -81,7 +81,7 @@ impl<'m> Open<'m> {
         ensures same { λ _. ⌜ name (now (self .exit) .words) ≡ name (now (self .entry) .words) ⌝ }
         ensures marks { λ _. ⌜ Left (now (self .entry) .marks) (now (self .exit) .marks) (now (now (self .entry) .marks)) ⌝ }
     {
-        calls::set(self.words, holds, source, hold.number, word, number)
+        by_number::set(self.words, holds, source, hold.number, word, number)
     }
 
     pub fn put<S: TemplateSource>(
@@ -96,7 +96,7 @@ impl<'m> Open<'m> {
         ensures same { λ _. ⌜ name (now (self .exit) .words) ≡ name (now (self .entry) .words) ⌝ }
         ensures marks { λ _. ⌜ Left (now (self .entry) .marks) (now (self .exit) .marks) (now (now (self .entry) .marks)) ⌝ }
     {
-        calls::put(self.words, holds, source, hold.number, word, from.number)
+        by_number::put(self.words, holds, source, hold.number, word, from.number)
     }
 
     pub fn fetch<S: TemplateSource>(
@@ -109,6 +109,6 @@ impl<'m> Open<'m> {
     ) -> Result<(), Refusal>
         ensures { λ r. ⌜ Fetches (S·TemplateSource .meaning (now (source .entry))) (now (now (self .entry) .words)) (now (holds .entry) .records) (now (hold .entry) .number) word (now (to .entry) .number) (now (holds .exit) .records) r ⌝ }
     {
-        calls::fetch(self.words, holds, source, hold.number, word, to.number)
+        by_number::fetch(self.words, holds, source, hold.number, word, to.number)
     }
 }

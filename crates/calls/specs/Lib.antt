@@ -1,0 +1,4 @@
+pub mod Holds
+pub mod Rows
+pub mod Calls
+pub mod Known

@@ -24,6 +24,13 @@ pub struct Holds {
 }
 
 impl Holds {
+    // A table as it is, of this heap or another.
+    pub fn adopt(records: [HoldRecord; 64]) -> Holds
+        ensures { λ r. ⌜ r .records ≡ records ⌝ }
+    {
+        Holds { records }
+    }
+
     // No hold is held.
     pub fn new() -> Holds
         ensures { λ r. ⌜ r .records ≡ replicate 64 unheld ⌝ }

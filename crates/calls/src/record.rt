@@ -3,6 +3,6 @@ use cells::content::Content;
 // One hold: whether it is held, and with what.
 #[derive(Clone, Copy)]
 pub struct HoldRecord {
-    pub(crate) held: bool,
-    pub(crate) content: Content,
+    pub held: bool,
+    pub content: Content,
 }

@@ -5,7 +5,7 @@ use mathlib.Core.List.{List, [], _∷_, _++_}
 use Prim.Native.Nat.{ℕ, min, _+_, _-_, _^_}
 use lib.Dec.{eqb}
 use lib.ListN.{take}
-use Rattle.script.specs.Buffer.{held}
+use Rattle.lines.specs.Buffer.{held}
 use Rattle.script.specs.Session.{state, Answers}
 use Rattle.cues.specs.declared.Desk.{Desk}
 

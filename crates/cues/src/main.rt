@@ -1,12 +1,12 @@
 // Reads the script from standard input, and prints the answer to each line before it waits for more.
 ghost use mathlib.Core.Path.{_≡_};
 ghost use mathlib.Core.List.{[]};
-ghost use Rattle.std.specs.declared.option.Option.the-variants.{None};
 ghost use Rattle.std.specs.Vec.{made};
-ghost use Rattle.script.specs.Buffer.{held};
+ghost use Rattle.lines.specs.Buffer.{held};
+ghost use Rattle.script.specs.Obeying.{empty};
 ghost use Rattle.script.specs.Session.{state};
 ghost use Rattle.cues.specs.Reading.{LineEnded, pending};
-use script::buffer::LineBuffer;
+use lines::buffer::LineBuffer;
 use script::session::Session;
 use std::error::AnyError;
 use std::io::ErrorKind;
@@ -24,7 +24,7 @@ struct Desk {
 
 impl Desk {
     fn new() -> Desk
-        ensures { λ r. ⌜ (state (r .session) ≡ None) × (held (r .line) ≡ []) × (r .number ≡ 1) ⌝ }
+        ensures { λ r. ⌜ (state (r .session) ≡ empty) × (held (r .line) ≡ []) × (r .number ≡ 1) ⌝ }
     {
         Desk {
             session: Session::new(),

@@ -1,6 +1,5 @@
-pub mod Numerals
-pub mod Buffers
-pub mod Cuts
-pub mod Listings
-pub mod Readings
+pub mod Texts
+pub mod Numbers
+pub mod Tables
 pub mod Orders
+pub mod Heaps

@@ -1,8 +1,4 @@
-pub mod Words
-pub mod Numbers
-pub mod Parts
-pub mod Requests
-pub mod Commands
-pub mod Session
+pub mod Replies
 pub mod Obeying
-pub mod Buffer
+pub mod Session
+pub mod Coming

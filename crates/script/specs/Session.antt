@@ -1,54 +1,40 @@
 -- What a session prints for a line, and what it becomes.
 use mathlib.Core.Path.{_≡_}
-use mathlib.Core.List.{List, _++_}
+use mathlib.Core.List.{List}
 use mathlib.Core.Logic.{_⊎_}
 use Prim.Native.Nat.{ℕ}
-use lib.Chars.{codes}
 use Rattle.std.specs.declared.option.Option.{Option}
 use Rattle.std.specs.declared.option.Option.the-variants.{Some, None}
-use Rattle.std.specs.declared.result.Result.{Result}
-use Rattle.std.specs.declared.result.Result.the-variants.{Ok, Err}
 use Rattle.std.specs.Of.Vec.{vec-items}
-use Rattle.std.specs.Options.{mapped}
-use Rattle.std.specs.Written.{decimal}
-use Rattle.refusals.specs.declared.refusal.Refusal.{Refusal}
 use Rattle.refusals.specs.declared.refusal.Refusal.the-variants.{NotALine}
-use Rattle.refusals.specs.Table.{number-of}
-use Rattle.layouts.specs.Table.{table-refusal}
+use Rattle.sources.specs.declared.over.Over.{Over}
+use Rattle.sources.specs.declared.table.Table.{Table}
+use Rattle.lines.specs.Requests.{Request, Line}
+use Rattle.lines.specs.Words.{OneLine}
+use Rattle.script.specs.declared.reply.Reply.{Reply}
+use Rattle.script.specs.declared.reply.Reply.the-variants.{Refused}
 use Rattle.script.specs.declared.session.Session.{Session}
-use Rattle.script.specs.Requests.{Request, types, Line}
-use Rattle.script.specs.Words.{OneLine}
+use Rattle.script.specs.declared.store.Heap.{Heap}
+use Rattle.script.specs.declared.store.Store.{Store}
+use Rattle.script.specs.Obeying.{State, empty, typed, ready, InOrder, Obeys}
+use Rattle.script.specs.Replies.{printed}
 
--- the words of the table that was accepted, once one was
-abbrev pub State : Type 0
-State = Option (List ℕ)
+abbrev pub table-words : Over Table → List ℕ
+table-words o = vec-items (o .below .words)
+
+abbrev pub opened : Over Table → Heap → State
+opened o h = ready (table-words o) (vec-items (h .words)) (h .holds .records)
+
+abbrev pub with-heap : Over Table → Option Heap → State
+with-heap o None = typed (table-words o)
+with-heap o (Some h) = opened o h
+
+abbrev pub with-store : Option Store → State
+with-store None = empty
+with-store (Some s) = with-heap (s .source) (s .heap)
 
 abbrev pub state : Session → State
-state s = mapped (λ o. vec-items (o .below .words)) (s .source)
-
--- a table comes before any other is accepted
-abbrev pub InOrder : State → Request → Type 0
-InOrder s (types ns) = s ≡ None
-
-abbrev pub judged : Option Refusal → State → Result State Refusal
-judged None s = Ok s
-judged (Some f) s = Err f
-
--- what a request in order brings: a new state, or a refusal
-abbrev pub outcome : Request → Result State Refusal
-outcome (types ns) = judged (table-refusal ns) (Some ns)
-
-abbrev pub refused : ℕ → List ℕ
-refused k = codes "no " ++ (decimal k ++ codes "\n")
-
-abbrev pub printed : Result State Refusal → List ℕ
-printed (Ok s) = codes "ok\n"
-printed (Err f) = refused (number-of f)
-
--- a refusal leaves all as it was
-abbrev pub after : State → Result State Refusal → State
-after s (Ok t) = t
-after s (Err f) = s
+state s = with-store (s .store)
 
 -- the line asks for q, and it comes in order
 abbrev pub Asks : List ℕ → State → Request → Type 0
@@ -58,5 +44,5 @@ Asks line s q = Line line q × InOrder s q
 pub record Answers (line : List ℕ) (number : ℕ) (s : State) (bytes : List ℕ) (t : State) : Type 0 where
   pub one-line : OneLine bytes
   pub asked : ((q : Request) × Asks line s q) ⊎ ((q : Request) → Asks line s q → ⊥)
-  pub obeyed : (q : Request) → Asks line s q → (bytes ≡ printed (outcome q)) × (t ≡ after s (outcome q))
-  pub other : ((q : Request) → Asks line s q → ⊥) → (bytes ≡ printed (Err (NotALine number))) × (t ≡ s)
+  pub obeyed : (q : Request) → Asks line s q → (r : Reply) × Obeys s q t r × (bytes ≡ printed r)
+  pub other : ((q : Request) → Asks line s q → ⊥) → (bytes ≡ printed (Refused (NotALine number))) × (t ≡ s)

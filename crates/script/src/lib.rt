@@ -1,6 +1,5 @@
-// A line of the script: read into a command, obeyed by a session, and answered.
-pub mod buffer;
-pub mod command;
-pub mod number;
-pub mod part;
+// A session of the script: it obeys a line, and answers it.
+mod reply;
 pub mod session;
+mod store;
+mod value;

@@ -1,7 +1,7 @@
 use mathlib.Core.Path.{sym, ap, _∙_}
 use native.Mathlib.Omega.{arith}
 use Rattle.std.proofs.shelf.Lists.{at-drop-all}
-use Rattle.script.specs.Buffer.{held}
+use Rattle.lines.specs.Buffer.{held}
 use Rattle.cues.specs.Reading.{pending}
 use Rattle.cues.proofs.Bytes.{line-feed, other-byte}
 use Rattle.cues.proofs.Desk.take.Needs as need

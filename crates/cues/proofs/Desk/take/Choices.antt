@@ -1,6 +1,6 @@
 use mathlib.Core.Path.{_≡_}
 use lib.ListN.{drop}
-use Rattle.script.specs.Buffer.{held}
+use Rattle.lines.specs.Buffer.{held}
 use Rattle.cues.specs.Reading.{pending}
 use Rattle.cues.proofs.Desk.take.Given as given
 

@@ -1,0 +1,12 @@
+pub mod Counts
+pub mod Frames
+pub mod Inside
+pub mod Steps
+pub mod Turns
+pub mod Roots
+pub mod Unique
+pub mod Grown
+pub mod Reached
+pub mod Filled
+pub mod Order
+pub mod Laws

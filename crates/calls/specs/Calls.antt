@@ -73,6 +73,11 @@ note-due t rs h c = first-due (row-2 (h ∷ []) ∷ row-3 true (reads rs) (h ∷
 abbrev pub copy-due : List HoldRecord → ℕ → ℕ → Option Refusal
 copy-due rs g h = first-due (row-2 (g ∷ h ∷ []) ∷ row-3 true (reads rs) (g ∷ h ∷ []) ∷ [])
 
+-- the rows of a call that goes to the cell of a hold as a whole
+abbrev pub cell-due : Types → ℕ → List HoldRecord → ℕ → Option Refusal
+cell-due t L rs h = first-due
+    (row-2 (h ∷ []) ∷ row-3 true (reads rs) (h ∷ []) ∷ row-6 (reads rs) h ∷ row-7 t L rs h ∷ [])
+
 abbrev pub plain-due : Types → ℕ → List HoldRecord → ℕ → ℕ → Option Refusal
 plain-due t L rs h i = first-due
     (row-2 (h ∷ []) ∷ row-3 true (reads rs) (h ∷ []) ∷ row-6 (reads rs) h ∷ row-7 t L rs h ∷ row-8 t (reads rs) h i ∷ row-9 plain t (reads rs) h i ∷ [])

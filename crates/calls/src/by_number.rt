@@ -1,7 +1,10 @@
 ghost use mathlib.Core.Path.{_≡_};
+ghost use mathlib.Core.Bool.{true};
 ghost use Prim.Native.Nat.{_<_, _≤_};
 ghost use lib.ListN.{length};
-ghost use Rattle.calls.specs.Calls.{Answers, Takes, Releases, Notes, Copies, Tells, Looks, Sets, Puts, Fetches, plain-due, pair-due, place-at};
+ghost use Rattle.cells.specs.declared.content.Content.the-variants.{Cell};
+ghost use Rattle.cells.specs.Words.{fits};
+ghost use Rattle.calls.specs.Calls.{Answers, Takes, Releases, Notes, Copies, Tells, Looks, Sets, Puts, Fetches, cell-due, plain-due, pair-due, place-at};
 ghost use Rattle.calls.specs.Holds.{at, holding};
 ghost use Rattle.calls.specs.Known.{Known};
 use crate::find::accepts;
@@ -16,6 +19,7 @@ use crate::holds::release_record;
 use crate::holds::take_record;
 use crate::spot::Spot;
 use cells::content::Content;
+use cells::words::does_fit;
 use cells::words::read_content;
 use cells::words::write_content;
 use layouts::entry::Class;
@@ -80,6 +84,26 @@ pub fn copy(holds: &mut Holds, from: u32, to: u32) -> Result<(), Refusal>
     content_of(holds, to)?;
     fill_record(&mut holds.records[to as usize], content);
     Ok(())
+}
+
+// The code and the address of the hold's cell, which fits a heap of so many words.
+pub fn cell_of<S: TemplateSource>(
+    length: usize,
+    holds: &Holds,
+    source: &S,
+    hold: u32,
+) -> Result<(u32, u32), Refusal>
+    ensures { λ r. ⌜ Answers (cell-due (S·TemplateSource .meaning (now (source .entry))) length (now (holds .entry) .records) hold) (Unit {0}) (λ p. (at (now (holds .entry) .records) hold ≡ holding (Cell (p .0) (p .1))) × (fits (S·TemplateSource .meaning (now (source .entry))) length (p .0) (p .1) ≡ true)) r ⌝ }
+{
+    check_number(hold)?;
+    let content = content_of(holds, hold)?;
+    let Content::Cell { code, address } = content else {
+        return Err(Refusal::NoCell { hold });
+    };
+    if !does_fit(source, length, code, address) {
+        return Err(Refusal::UnfitCell { hold });
+    }
+    Ok((code, address))
 }
 
 // Where the plain word of the hold's cell stands.

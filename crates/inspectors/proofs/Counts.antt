@@ -121,13 +121,13 @@ short : (rows : List Row) → length (in-use rows) ≤ length rows
 short [] = omega arith
 short (r ∷ rs) = let x = short rs in grind (arith, tells)
 
-full-first : (code : ℕ) (r : Row) (rs : List Row) (e z : Bool) → eqb (r .code) code ≡ e → eqb (r .cells) 0 ≡ z
+past-first : (code : ℕ) (r : Row) (rs : List Row) (e z : Bool) → eqb (r .code) code ≡ e → eqb (r .cells) 0 ≡ z
     → (length rs ≤ place code rs → length rs < length (also (in-use rs) code))
     → suc (length rs) ≤ cond (e || z) 0 (suc (place code rs))
     → suc (length rs) < length (also (in-use (r ∷ rs)) code)
-full-first code r rs true z p q ih h = absurd (omega arith)
-full-first code r rs false true p q ih h = absurd (omega arith)
-full-first code r rs false false p q ih h =
+past-first code r rs true z p q ih h = absurd (omega arith)
+past-first code r rs false true p q ih h = absurd (omega arith)
+past-first code r rs false false p q ih h =
     let x : length rs < length (also (in-use rs) code) = ih (omega arith) in
     let is = ap (λ b. also (cond b [] (r .code ∷ in-use rs)) code) q ∙ ap (λ b. cond b (r .code ∷ in-use rs) (r .code ∷ also (in-use rs) code)) p in
     omega (arith, ap length is)
@@ -135,7 +135,7 @@ full-first code r rs false false p q ih h =
 -- no row is left, just where the code is one more than there are rows
 past : (code : ℕ) (rows : List Row) → length rows ≤ place code rows → length rows < length (also (in-use rows) code)
 past code [] h = omega arith
-past code (r ∷ rs) h = full-first code r rs _ _ refl refl (past code rs) h
+past code (r ∷ rs) h = past-first code r rs _ _ refl refl (past code rs) h
 
 room-first : (code : ℕ) (r : Row) (rs : List Row) (e z : Bool) → eqb (r .code) code ≡ e → eqb (r .cells) 0 ≡ z
     → (place code rs < length rs → length (also (in-use rs) code) ≤ length rs)

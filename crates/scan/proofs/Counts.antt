@@ -1,13 +1,10 @@
 -- How many bytes are unmarked, before and after a mark.
-use mathlib.Core.Path.{_≡_, refl, sym, ap, _∙_}
-use mathlib.Core.Bool.{Bool, true, false, cond}
+use mathlib.Core.Path.{_≡_, refl, _∙_}
 use mathlib.Core.List.{List, [], _∷_}
 use Prim.Native.Nat.{ℕ, zero, suc, _+_, _<_, _≤_}
 use native.Mathlib.Nat.{add-zero}
 use native.Mathlib.Omega.{arith}
-use lib.Dec.{eqb}
-use lib.ListN.{length, getD, set, length-set}
-use Rattle.std.proofs.shelf.Tests.{eqb-true, eqb-false}
+use lib.ListN.{length, set, length-set}
 use Rattle.std.proofs.shelf.Ways.{tells}
 use Rattle.scan.specs.Marks.{IsMarked, mark-words, unmarked}
 

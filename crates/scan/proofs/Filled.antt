@@ -14,14 +14,14 @@ use Rattle.scan.specs.Visits.{Visit, Seen}
 use Rattle.scan.specs.Marks.{IsMarked, mark-words}
 use Rattle.scan.specs.Children.{width, child-at, cell-visit}
 use Rattle.scan.specs.Scan.{Run, Task, pointer, rest, marked, opened, visited, refused, plain, misfit, child, stopped, Stops}
-use Rattle.scan.specs.Reach.{Reach, root, through, lone, Apart, InCell, CellMarked, ChildrenMarked, Closed}
+use Rattle.scan.specs.Reach.{Reach, root, through, lone, Apart, CellMarked, ChildrenMarked, Closed}
 use Rattle.scan.specs.Laws.{Completes}
 use Rattle.scan.specs.declared.frame.Child.the-variants.{Cell}
 use Rattle.scan.specs.declared.scanned.Ending.{Ending}
 use Rattle.scan.specs.declared.scanned.Ending.the-variants.{Done}
 use Rattle.scan.proofs.Counts.{length-mark}
 use Rattle.scan.proofs.Inside.{Inside, inside-child}
-use Rattle.scan.proofs.Grown.{Grown, mark-grown, mark-all, mark-only, grown, run-length}
+use Rattle.scan.proofs.Grown.{Grown, mark-all, mark-only, grown, run-length}
 use Rattle.scan.proofs.Reached.{own-only, reach-on}
 
 pub seen-left : (vs us : List Visit) (c a : ℕ) → Seen vs c a → Seen (vs ++ us) c a

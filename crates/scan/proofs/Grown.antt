@@ -3,7 +3,6 @@ use mathlib.Core.Path.{_≡_, refl, sym, ap, _∙_, subst}
 use mathlib.Core.List.{List, [], _∷_, _++_}
 use mathlib.Core.Logic.{_⊎_, inl, inr}
 use Prim.Native.Nat.{ℕ, zero, suc, _+_, _<_, _≤_}
-use native.Mathlib.Nat.{add-zero}
 use native.Mathlib.Omega.{arith}
 use lib.ListN.{length, getD, set}
 use Rattle.std.specs.declared.option.Option.{Option}
@@ -14,7 +13,7 @@ use Rattle.layouts.specs.Types.{Types}
 use Rattle.scan.specs.Visits.{Visit, holds, then-holds}
 use Rattle.scan.specs.Marks.{IsMarked, mark-words}
 use Rattle.scan.specs.Children.{width}
-use Rattle.scan.specs.Scan.{Run, Task, pointer, rest, marked, opened, visited, refused, plain, misfit, child, stopped, Stops}
+use Rattle.scan.specs.Scan.{Run, Task, marked, opened, visited, refused, plain, misfit, child, stopped}
 use Rattle.scan.specs.declared.scanned.Ending.{Ending}
 use Rattle.scan.proofs.Counts.{length-mark}
 

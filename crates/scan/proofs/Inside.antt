@@ -1,10 +1,10 @@
 -- A child that is a cell lies within the heap.
-use mathlib.Core.Path.{_≡_, refl, sym, ap, _∙_, subst}
-use mathlib.Core.Bool.{Bool, true, false, cond, _&&_}
+use mathlib.Core.Path.{_≡_, refl, subst}
+use mathlib.Core.Bool.{Bool, true, false, cond}
 use mathlib.Core.List.{List}
 use Prim.Native.Nat.{ℕ, _+_, _-_, _<_, _≤_}
 use native.Mathlib.Omega.{arith}
-use lib.Dec.{eqb, ltb, leb}
+use lib.Dec.{eqb}
 use lib.ListN.{length, getD}
 use Rattle.std.proofs.shelf.Ways.{tells}
 use Rattle.std.specs.declared.option.Option.{Option}
@@ -15,10 +15,9 @@ use Rattle.layouts.specs.Types.{Types, Lawful}
 use Rattle.layouts.specs.Classes.{class-of}
 use Rattle.cells.specs.declared.content.Content.{Content}
 use Rattle.cells.specs.declared.content.Content.the-variants.{Nothing as NoContent, Cell as CellContent, Immediate}
-use Rattle.cells.specs.Words.{fits, fit-cell, cell-free, place, says}
+use Rattle.cells.specs.Words.{fits, cell-free, place}
 use Rattle.scan.specs.Children.{width, child-in, child-by, child-at}
-use Rattle.scan.specs.declared.frame.Child.{Child}
-use Rattle.scan.specs.declared.frame.Child.the-variants.{Nothing, Cell, Misfit}
+use Rattle.scan.specs.declared.frame.Child.the-variants.{Nothing, Cell}
 
 pub record Inside (t : Types) (L c a : ℕ) : Type 0 where
   pub some : 0 < width t c

@@ -1,8 +1,8 @@
 -- The laws of a scan, and a scan that was made.
-use mathlib.Core.Path.{_≡_, refl, sym, ap, _∙_, subst}
+use mathlib.Core.Path.{_≡_, refl, sym, subst}
 use mathlib.Core.Bool.{true}
-use mathlib.Core.List.{List, [], _∷_, _++_}
-use mathlib.Core.Logic.{_⊎_, inl, inr}
+use mathlib.Core.List.{List, [], _++_}
+use mathlib.Core.Logic.{inl, inr}
 use Prim.Native.Nat.{ℕ, _+_, _<_, _≤_}
 use lib.ListN.{length}
 use Rattle.std.specs.declared.option.Option.{Option}
@@ -15,7 +15,7 @@ use Rattle.cells.specs.Words.{fits}
 use Rattle.scan.specs.Visits.{Visit, Seen}
 use Rattle.scan.specs.Marks.{IsMarked}
 use Rattle.scan.specs.Scan.{Run, pointer}
-use Rattle.scan.specs.Reach.{Reach, lone, InOrder, Apart, Unmarked, Closed}
+use Rattle.scan.specs.Reach.{Reach, lone, InOrder, Apart, Unmarked}
 use Rattle.scan.specs.Laws.{Due, Completes, ScanLaws}
 use Rattle.scan.specs.Pending.{frames, Resume, Entered, Leads}
 use Rattle.scan.specs.Answers.{Traced}

@@ -18,7 +18,6 @@ use Rattle.scan.specs.Reach.{Reach, through, lone, Apart}
 use Rattle.scan.specs.Laws.{Settled, ChildrenFirst}
 use Rattle.scan.specs.declared.frame.Child.the-variants.{Cell}
 use Rattle.scan.specs.declared.scanned.Ending.{Ending}
-use Rattle.scan.specs.declared.scanned.Ending.the-variants.{Done}
 use Rattle.scan.proofs.Counts.{length-mark}
 use Rattle.scan.proofs.Inside.{Inside, inside-child}
 use Rattle.scan.proofs.Grown.{mark-only, run-length}

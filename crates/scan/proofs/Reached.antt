@@ -2,11 +2,11 @@
 use mathlib.Core.Path.{_≡_, refl, sym, ap, _∙_, subst}
 use mathlib.Core.List.{List, [], _∷_, _++_}
 use mathlib.Core.Logic.{_⊎_, inl, inr}
-use Prim.Native.Nat.{ℕ, zero, suc, _+_, _<_, _≤_}
+use Prim.Native.Nat.{ℕ, zero, suc, _+_, _≤_}
 use native.Mathlib.Omega.{arith}
 use lib.ListN.{length, getD}
 use Rattle.std.specs.declared.option.Option.{Option}
-use Rattle.std.specs.declared.option.Option.the-variants.{Some, None}
+use Rattle.std.specs.declared.option.Option.the-variants.{None}
 use Rattle.std.specs.shelf.Lists.{All}
 use Rattle.std.proofs.shelf.Lists.{append-assoc}
 use Rattle.std.proofs.shelf.Elements.{all-append, all-weaker}
@@ -14,12 +14,12 @@ use Rattle.layouts.specs.Types.{Types}
 use Rattle.cells.specs.declared.content.Content.{Content}
 use Rattle.cells.specs.declared.content.Content.the-variants.{Nothing as NoContent, Cell as CellContent}
 use Rattle.cells.specs.Words.{place}
-use Rattle.scan.specs.Visits.{Visit, Seen, Once}
+use Rattle.scan.specs.Visits.{Visit, Once}
 use Rattle.scan.specs.Marks.{IsMarked, mark-words}
 use Rattle.scan.specs.Children.{width, child-at, cell-visit}
 use Rattle.scan.specs.Scan.{Run, Task, pointer, rest, marked, opened, visited, refused, plain, misfit, child, stopped, Stops}
 use Rattle.scan.specs.Reach.{Reach, root, through, lone, InCell}
-use Rattle.scan.specs.declared.frame.Child.the-variants.{Cell, Misfit}
+use Rattle.scan.specs.declared.frame.Child.the-variants.{Misfit}
 use Rattle.scan.specs.declared.scanned.Ending.{Ending}
 use Rattle.scan.specs.declared.scanned.Ending.the-variants.{Done, Broken, Full}
 use Rattle.scan.proofs.Counts.{length-mark}

@@ -1,8 +1,8 @@
 -- Where the walk begins and ends.
-use mathlib.Core.Path.{_≡_, refl, sym, _∙_, subst}
-use mathlib.Core.Logic.{_⊎_, inl, inr}
-use mathlib.Core.List.{List, [], _∷_}
-use Prim.Native.Nat.{ℕ, zero, suc, _+_, _<_, _≤_}
+use mathlib.Core.Path.{_≡_, sym, _∙_, subst}
+use mathlib.Core.Logic.{inl, inr}
+use mathlib.Core.List.{List, []}
+use Prim.Native.Nat.{ℕ, zero, suc, _<_, _≤_}
 use native.Mathlib.Omega.{arith}
 use lib.ListN.{length, getD, set, length-set}
 use Rattle.std.specs.declared.option.Option.{Option}
@@ -12,7 +12,7 @@ use Rattle.scan.specs.Visits.{Visit}
 use Rattle.scan.specs.Marks.{mark-words, unmarked}
 use Rattle.scan.specs.Children.{width}
 use Rattle.scan.specs.Scan.{Run, pointer}
-use Rattle.scan.specs.Pending.{frame-of, frames, Resume, finished, Ready, AllReady, Good, Entered}
+use Rattle.scan.specs.Pending.{frame-of, frames, Resume, finished, AllReady, Good, Entered}
 use Rattle.scan.specs.declared.frame.Frame.{Frame}
 use Rattle.scan.specs.declared.scanned.Ending.{Ending}
 use Rattle.scan.specs.declared.scanned.Ending.the-variants.{Done}

@@ -1,29 +1,26 @@
 -- Each step of the walk, against the recursion.
-use mathlib.Core.Path.{_≡_, refl, sym, ap, _∙_, subst}
+use mathlib.Core.Path.{_≡_, sym, ap, _∙_, subst}
 use mathlib.Core.List.{List, [], _∷_, _++_}
-use Prim.Native.Nat.{ℕ, zero, suc, _+_, _<_, _≤_}
+use Prim.Native.Nat.{ℕ, suc, _+_, _<_, _≤_}
 use native.Mathlib.Omega.{arith}
 use lib.ListN.{length, getD, set, length-set}
 use Rattle.std.specs.declared.option.Option.{Option}
-use Rattle.std.specs.declared.option.Option.the-variants.{Some, None}
+use Rattle.std.specs.declared.option.Option.the-variants.{Some}
 use Rattle.std.proofs.shelf.Lists.{append-assoc, append-nil}
 use Rattle.layouts.specs.Types.{Types}
 use Rattle.scan.specs.Visits.{Visit}
 use Rattle.scan.specs.Marks.{IsMarked, mark-words, unmarked}
 use Rattle.scan.specs.Children.{width, child-at, cell-visit}
-use Rattle.scan.specs.Scan.{Run, pointer, rest, marked, opened, visited, refused, plain, misfit, child, stopped, Stops}
-use Rattle.scan.specs.Pending.{frame-of, frames, Resume, finished, onward, halted, Ready, AllReady, load, weight, Good, Leads, Advanced}
-use Rattle.scan.specs.declared.frame.Child.the-variants.{Nothing, Cell, Misfit}
+use Rattle.scan.specs.Scan.{Run, pointer, marked, opened, visited, plain, child, stopped}
+use Rattle.scan.specs.Pending.{frame-of, frames, Resume, finished, onward, halted, Ready, AllReady, weight, Good, Leads, Advanced}
+use Rattle.scan.specs.declared.frame.Child.the-variants.{Nothing, Cell}
 use Rattle.scan.specs.declared.frame.Frame.{Frame}
 use Rattle.scan.specs.declared.scanned.Ending.{Ending}
-use Rattle.scan.specs.declared.scanned.Ending.the-variants.{Done, Broken, Full}
+use Rattle.scan.specs.declared.scanned.Ending.the-variants.{Done}
 use Rattle.scan.proofs.Counts.{mark-lt, length-mark}
 use Rattle.scan.proofs.Frames.{frames-push}
 
 module _ (t : Types) (w : List ℕ) {S : Type 0} (step : S → Visit → Option S) where
-  pub leads-none : (fs : List Frame) (m : List ℕ) (s : S) → Leads t w step [] fs m s fs m s
-  leads-none fs m s us m″ s″ e r = r
-
   pub leads-on : (vs us : List Visit) (fs₂ : List Frame) (m₂ : List ℕ) (s₂ : S) (fs₁ : List Frame) (m₁ : List ℕ) (s₁ : S) (fs : List Frame) (m : List ℕ) (s : S) → Leads t w step vs fs₁ m₁ s₁ fs m s → Leads t w step us fs₂ m₂ s₂ fs₁ m₁ s₁ → Leads t w step (vs ++ us) fs₂ m₂ s₂ fs m s
   leads-on vs us fs₂ m₂ s₂ fs₁ m₁ s₁ fs m s one two xs m″ s″ e r =
       subst (λ ys. Resume t w step fs m s ys m″ s″ e) (sym (append-assoc vs us xs)) (one (us ++ xs) m″ s″ e (two xs m″ s″ e r))

@@ -1,9 +1,9 @@
 -- One turn, with d frames pending.
-use mathlib.Core.Path.{_≡_, refl, sym, ap, _∙_, subst}
+use mathlib.Core.Path.{_≡_, refl, sym, subst}
 use mathlib.Core.Bool.{Bool, true, false}
-use mathlib.Core.Logic.{_⊎_, inl, inr}
-use mathlib.Core.List.{List, [], _∷_}
-use Prim.Native.Nat.{ℕ, zero, suc, _+_, _-_, _<_, _≤_}
+use mathlib.Core.Logic.{inl, inr}
+use mathlib.Core.List.{List, []}
+use Prim.Native.Nat.{ℕ, suc, _+_, _-_, _<_, _≤_}
 use native.Mathlib.Numerals.{add-one}
 use native.Mathlib.Omega.{arith}
 use lib.ListN.{length, getD, set}
@@ -15,7 +15,7 @@ use Rattle.cells.specs.Words.{place}
 use Rattle.scan.specs.Visits.{Visit, Visited}
 use Rattle.scan.specs.Marks.{mark-words}
 use Rattle.scan.specs.Children.{width, child-at, cell-visit}
-use Rattle.scan.specs.Scan.{visited, refused, misfit}
+use Rattle.scan.specs.Scan.{refused, misfit}
 use Rattle.scan.specs.Pending.{frame-of, frames, Resume, halted, Ready, Good, Entered, Advanced, OneVisit}
 use Rattle.scan.specs.declared.frame.Child.the-variants.{Nothing, Cell, Misfit}
 use Rattle.scan.specs.declared.frame.Frame.{Frame}

@@ -7,7 +7,7 @@ use Rattle.std.specs.declared.option.Option.{Option}
 use Rattle.layouts.specs.Types.{Types}
 use Rattle.scan.specs.Visits.{Visit}
 use Rattle.scan.specs.Marks.{IsMarked, mark-words, unmarked}
-use Rattle.scan.specs.Children.{width, cell-visit}
+use Rattle.scan.specs.Children.{width}
 use Rattle.scan.specs.Scan.{Run, rest, Stops}
 use Rattle.scan.specs.declared.frame.Frame.{Frame}
 use Rattle.scan.specs.declared.frame.Next.{Next}

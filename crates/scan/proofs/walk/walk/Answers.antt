@@ -1,13 +1,12 @@
-use mathlib.Core.Path.{refl, sym, ap, _∙_}
+use mathlib.Core.Path.{refl, ap, _∙_}
 use mathlib.Core.List.{[], _∷_, _++_}
 use Prim.Native.Nat.{_+_, _<_}
 use native.Mathlib.Omega.{arith}
 use lib.ListN.{length}
 use Rattle.std.proofs.shelf.Lists.{length-push}
-use Rattle.scan.specs.Pending.{frames}
 use Rattle.scan.proofs.Counts.{unmarked-all}
 use Rattle.scan.proofs.Inside.{inside-fits}
-use Rattle.scan.proofs.Steps.{leads-none, leads-on}
+use Rattle.scan.proofs.Steps.{leads-on}
 use Rattle.scan.proofs.Roots.{begun, out-of-frames}
 use Rattle.scan.proofs.Laws.{traced}
 use Rattle.scan.proofs.walk.walk.Needs as need

@@ -5,17 +5,17 @@ use Rattle.free_list.specs.Free.{proper, broken}
 use Rattle.free_list.proofs.Walk.{walked_more, walked_ends}
 use Rattle.free_list.proofs.first_fit.first_fit.Goals as goal
 
-pub returns-in-err-next-run : goal.returns-in-err-next-run
-returns-in-err-next-run c =
+pub returns-in_err-next_run : goal.returns-in_err-next_run
+returns-in_err-next_run c =
     let p = err_from_is_err_and c.from-residual.result c.from-residual.ensures.1 in
-    rw (p.1, p.2) (walked_ends (broken _) c.loop-found.invariant.2 c.in-err-next-run.ensures)
+    rw (p.1, p.2) (walked_ends (broken _) c.loop-found.invariant.2 c.in_err-next_run.ensures)
 
 pub returns-in-None : goal.returns-in-None
 returns-in-None c =
     walked_ends proper c.loop-found.invariant.2
-    (MatchOption-at_none _ _ c.in-None.is c.in-ok-next-run.ensures)
+    (MatchOption-at_none _ _ c.in-None.is c.in_ok-next_run.ensures)
 
 pub loop-found-preserved : goal.loop-found-preserved
 loop-found-preserved c =
-    let next = (MatchOption-at_some _ _ _ c.in-Some.is c.in-ok-next-run.ensures).1 in
+    let next = (MatchOption-at_some _ _ _ c.in-Some.is c.in_ok-next_run.ensures).1 in
     (omega (arith, next.some), next.within, walked_more c.loop-found.invariant.2 next (omega arith))

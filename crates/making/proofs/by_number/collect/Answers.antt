@@ -4,12 +4,12 @@ use Rattle.refusals.specs.declared.refusal.Refusal.{Refusal}
 use Rattle.making.specs.Makes.{Collected, swept, stopped}
 use Rattle.making.proofs.by_number.collect.Goals as goal
 
-pub returns-in-err-mark-holds : goal.returns-in-err-mark-holds
-returns-in-err-mark-holds g c =
+pub returns-in_err-mark_holds : goal.returns-in_err-mark_holds
+returns-in_err-mark_holds g c =
     let e = err_from_is_err_and c.from-residual.result c.from-residual.ensures.1 in
     let q = e.2 in
-    let is : c.from-residual.result ≡ Err c.in-err-mark-holds.field-0.0 = cc (e.1, q) in
-    subst (λ (r : Result (Unit {0}) Refusal). Collected (g.S.TemplateSource.meaning c.args.source.now) c.args.words.now c.args.holds.now.records c.args.words.now r) (sym is) (stopped (c.in-err-mark-holds.ensures.marked c.requires))
+    let is : c.from-residual.result ≡ Err c.in_err-mark_holds.field-0.0 = cc (e.1, q) in
+    subst (λ (r : Result (Unit {0}) Refusal). Collected (g.S.TemplateSource.meaning c.args.source.now) c.args.words.now c.args.holds.now.records c.args.words.now r) (sym is) (stopped (c.in_err-mark_holds.ensures.marked c.requires))
 
 pub returns : goal.returns
-returns g c = swept (c.in-ok-mark-holds.ensures.marked c.requires) c.in-ok-sweep.ensures.1.1
+returns g c = swept (c.in_ok-mark_holds.ensures.marked c.requires) c.in_ok-sweep.ensures.1.1

@@ -4,8 +4,8 @@ use Rattle.scan.specs.declared.scanned.Unscanned.TheVariants.{Root}
 use Rattle.marking.proofs.Steps.{no_cell, root_scanned, root_unfit}
 use Rattle.marking.proofs.mark.scan_root.Goals as goal
 
-pub returns-in-default : goal.returns-in-default
-returns-in-default g c = no_cell (g.S.TemplateSource.meaning c.args.source.now) c.args.words.now c.args.root c.args.marks.now c.in-default.not-Cell
+pub returns-in_default : goal.returns-in_default
+returns-in_default g c = no_cell (g.S.TemplateSource.meaning c.args.source.now) c.args.words.now c.args.root c.args.marks.now c.in_default.not-Cell
 
 pub returns-in-Ok : goal.returns-in-Ok
 returns-in-Ok g c =

@@ -7,35 +7,35 @@ use Rattle.replay.specs.Replays.{exists_in}
 use Rattle.replay.proofs.Joined.{run_more, ran}
 use Rattle.replay.proofs.replay.replay.Goals as goal
 
-pub offset-bounds-calls-i : goal.offset-bounds-calls-i
-offset-bounds-calls-i g c =
+pub offset_bounds-calls-i : goal.offset_bounds-calls-i
+offset_bounds-calls-i g c =
     let lt : c.loop-i.i < length c.args.calls.now = omega (arith, c.fewer-most.ensures) in
     search rules
 
 pub loop-i-preserved : goal.loop-i-preserved
 loop-i-preserved g c =
     let before : State = record { marked = c.loop-i.marked; words = c.loop-i.words; marks = c.loop-i.marks; records = c.loop-i.holds.records } in
-    let after : State = record { marked = c.carry-out.new.marked; words = c.carry-out.new.words; marks = c.carry-out.new.marks; records = c.carry-out.new.holds.records } in (
-      run_more (g.S.TemplateSource.meaning c.args.source.now) g.I.Inspector.step (length c.args.places.now) c.args.calls.now c.loop-i.answers c.loop-i.calls c.loop-i.i c.index-calls-i.result c.in-Some.answer c.carry-out.new.call
-          (new_state (length c.format-words.new.words) c.args.marks.now) before after
+    let after : State = record { marked = c.carry_out.new.marked; words = c.carry_out.new.words; marks = c.carry_out.new.marks; records = c.carry_out.new.holds.records } in (
+      run_more (g.S.TemplateSource.meaning c.args.source.now) g.I.Inspector.step (length c.args.places.now) c.args.calls.now c.loop-i.answers c.loop-i.calls c.loop-i.i c.index-calls-i.result c.in-Some.answer c.carry_out.new.call
+          (new_state (length c.format_words.new.words) c.args.marks.now) before after
           (omega (arith, c.fewer-most.ensures, c.loop-i-test.true)) (omega (arith, c.fewer-most.ensures, c.loop-i.auto.answers)) c.loop-i.auto.calls c.loop-i.invariant.0
-          (subst (λ x. CallStep (g.S.TemplateSource.meaning c.args.source.now) g.I.Inspector.step (length c.args.places.now) x before c.in-Some.answer after c.carry-out.new.call)
+          (subst (λ x. CallStep (g.S.TemplateSource.meaning c.args.source.now) g.I.Inspector.step (length c.args.places.now) x before c.in-Some.answer after c.carry_out.new.call)
           (c.loop-i.invariant.1 c.loop-i.i c.index-calls-i.result (omega arith))
-          (subst (λ n. CallStep (g.S.TemplateSource.meaning c.args.source.now) g.I.Inspector.step n (get_or c.loop-i.calls c.loop-i.i c.index-calls-i.result) before c.in-Some.answer after c.carry-out.new.call)
+          (subst (λ n. CallStep (g.S.TemplateSource.meaning c.args.source.now) g.I.Inspector.step n (get_or c.loop-i.calls c.loop-i.i c.index-calls-i.result) before c.in-Some.answer after c.carry_out.new.call)
           c.loop-i.auto.places c.in-Some.ensures)),
-      λ k d h. get_or-set_other c.loop-i.calls c.loop-i.i k c.carry-out.new.call d (λ e. omega (arith, e)) ∙ c.loop-i.invariant.1 k d (omega arith),
+      λ k d h. get_or-set_other c.loop-i.calls c.loop-i.i k c.carry_out.new.call d (λ e. omega (arith, e)) ∙ c.loop-i.invariant.1 k d (omega arith),
       λ k d h. get_or-set_other c.loop-i.answers c.loop-i.i k c.in-Some.answer d (λ e. omega (arith, e)) ∙ c.loop-i.invariant.2 k d (omega arith),
     )
 
 pub returns-in-None : goal.returns-in-None
 returns-in-None g c =
     let gone = c.in-None.ensures in
-    let row = c.in-ok-format-words.ensures.0 in
-    let calls : set c.loop-i.calls c.loop-i.i c.carry-out.new.call ≡ c.loop-i.calls = ap (set c.loop-i.calls c.loop-i.i) gone.5 ∙ set-get_or c.loop-i.calls c.loop-i.i c.index-calls-i.result in (
+    let row = c.in_ok-format_words.ensures.0 in
+    let calls : set c.loop-i.calls c.loop-i.i c.carry_out.new.call ≡ c.loop-i.calls = ap (set c.loop-i.calls c.loop-i.i) gone.5 ∙ set-get_or c.loop-i.calls c.loop-i.i c.index-calls-i.result in (
       row,
       rw (gone.1, gone.2, gone.3, gone.4, calls)
-          (ran (g.S.TemplateSource.meaning c.args.source.now) g.I.Inspector.step (length c.args.places.now) (length c.args.words.now) (length c.format-words.new.words) c.args.marks.now c.args.calls.now c.loop-i.calls c.args.answers.now c.loop-i.answers c.loop-i.words c.loop-i.marks c.loop-i.i c.loop-i.marked c.loop-i.holds
-          (g.S.TemplateSource.laws c.args.source.now) row c.format-words.auto.words c.loop-i.invariant.0
+          (ran (g.S.TemplateSource.meaning c.args.source.now) g.I.Inspector.step (length c.args.places.now) (length c.args.words.now) (length c.format_words.new.words) c.args.marks.now c.args.calls.now c.loop-i.calls c.args.answers.now c.loop-i.answers c.loop-i.words c.loop-i.marks c.loop-i.i c.loop-i.marked c.loop-i.holds
+          (g.S.TemplateSource.laws c.args.source.now) row c.format_words.auto.words c.loop-i.invariant.0
           (omega (arith, c.fewer-most.ensures, c.loop-i-test.true))
           (inr (λ d. ap (exists_in c.loop-i.marked) (get_or_default c.args.calls.now c.loop-i.i d c.index-calls-i.result (omega (arith, c.fewer-most.ensures, c.loop-i-test.true)) ∙ sym (c.loop-i.invariant.1 c.loop-i.i c.index-calls-i.result (omega arith))) ∙ gone.0))
           c.loop-i.invariant.1 c.loop-i.invariant.2),
@@ -43,12 +43,12 @@ returns-in-None g c =
 
 pub returns : goal.returns
 returns g c =
-    let row = c.in-ok-format-words.ensures.0 in
+    let row = c.in_ok-format_words.ensures.0 in
     let i : c.loop-i.i ≡ c.fewer-most.result = omega (arith, c.loop-i-test.false, c.loop-i.auto.i-end) in (
       row,
       rw (← i)
-          (ran (g.S.TemplateSource.meaning c.args.source.now) g.I.Inspector.step (length c.args.places.now) (length c.args.words.now) (length c.format-words.new.words) c.args.marks.now c.args.calls.now c.loop-i.calls c.args.answers.now c.loop-i.answers c.loop-i.words c.loop-i.marks c.loop-i.i c.loop-i.marked c.loop-i.holds
-          (g.S.TemplateSource.laws c.args.source.now) row c.format-words.auto.words c.loop-i.invariant.0
+          (ran (g.S.TemplateSource.meaning c.args.source.now) g.I.Inspector.step (length c.args.places.now) (length c.args.words.now) (length c.format_words.new.words) c.args.marks.now c.args.calls.now c.loop-i.calls c.args.answers.now c.loop-i.answers c.loop-i.words c.loop-i.marks c.loop-i.i c.loop-i.marked c.loop-i.holds
+          (g.S.TemplateSource.laws c.args.source.now) row c.format_words.auto.words c.loop-i.invariant.0
           (omega (arith, c.fewer-most.ensures)) (inl (i ∙ c.fewer-most.ensures))
           c.loop-i.invariant.1 c.loop-i.invariant.2),
     )

@@ -15,30 +15,30 @@ pub returns-then-show : goal.returns-then-show
 returns-then-show g c =
     let t = g.S.TemplateSource.meaning c.args.source.now in
     let laws = g.S.TemplateSource.laws c.args.source.now in
-    turn_visited t laws c.args.words.now g.I.Inspector.step c.args.marks.now c.args.pending.now c.args.depth c.args.inspector.now c.requires.0 c.requires.1 c.show.new.inspector (omega arith) (made _ _ _ _ (rw c.words-of-n.ensures at c.show.ensures) c.if-show.true)
+    turn_visited t laws c.args.words.now g.I.Inspector.step c.args.marks.now c.args.pending.now c.args.depth c.args.inspector.now c.requires.0 c.requires.1 c.show.new.inspector (omega arith) (made _ _ _ _ (rw c.words_of-n.ensures at c.show.ensures) c.if-show.true)
 
 pub returns-then-frame-n : goal.returns-then-frame-n
 returns-then-frame-n g c =
     let t = g.S.TemplateSource.meaning c.args.source.now in
     let laws = g.S.TemplateSource.laws c.args.source.now in
-    let no = not_made _ _ _ _ (rw c.words-of-n.ensures at c.show.ensures) c.if-show.false in
+    let no = not_made _ _ _ _ (rw c.words_of-n.ensures at c.show.ensures) c.if-show.false in
     turn_refused t laws c.args.words.now g.I.Inspector.step c.args.marks.now c.args.pending.now c.args.depth c.args.inspector.now c.requires.0 c.requires.1 c.show.new.inspector no.1 (omega arith) no.0
 
-pub overflow-add-pending : goal.overflow-add-pending
-overflow-add-pending g c =
+pub overflow_add-pending : goal.overflow_add-pending
+overflow_add-pending g c =
     let t = g.S.TemplateSource.meaning c.args.source.now in
     let f = top c.args.pending.now c.args.depth in
     let few = short t (g.S.TemplateSource.laws c.args.source.now) f.code in
     let small : f.word + 1 < 4294967296 = omega arith in
     search rules
 
-pub child-of-requires : goal.child-of-requires
-child-of-requires g c =
+pub child_of-requires : goal.child_of-requires
+child_of-requires g c =
     let t = g.S.TemplateSource.meaning c.args.source.now in
     (top_ready t (length c.args.words.now) c.args.marks.now c.args.pending.now c.args.depth c.requires.0 c.requires.1).low
 
-pub place-of-requires : goal.place-of-requires
-place-of-requires g c =
+pub place_of-requires : goal.place_of-requires
+place_of-requires g c =
     let t = g.S.TemplateSource.meaning c.args.source.now in
     (top_ready t (length c.args.words.now) c.args.marks.now c.args.pending.now c.args.depth c.requires.0 c.requires.1).low
 
@@ -53,7 +53,7 @@ pub returns-in-Misfit : goal.returns-in-Misfit
 returns-in-Misfit g c =
     let t = g.S.TemplateSource.meaning c.args.source.now in
     let laws = g.S.TemplateSource.laws c.args.source.now in
-    subst (λ p. Resume t c.args.words.now g.I.Inspector.step (frames c.args.pending.now c.args.depth) c.args.marks.now c.args.inspector.now [] c.args.marks.now c.args.inspector.now (Broken p)) (sym c.place-of.ensures)
+    subst (λ p. Resume t c.args.words.now g.I.Inspector.step (frames c.args.pending.now c.args.depth) c.args.marks.now c.args.inspector.now [] c.args.marks.now c.args.inspector.now (Broken p)) (sym c.place_of.ensures)
     (turn_misfit t laws c.args.words.now g.I.Inspector.step c.args.marks.now c.args.pending.now c.args.depth c.args.inspector.now c.requires.0 c.requires.1 (omega arith) (sym c.in-Misfit.ensures))
 
 pub returns-in-Cell : goal.returns-in-Cell

@@ -9,6 +9,6 @@ returns-in-Some c = sym (lowest_found (entry_refusal c.args.words.now) c.loop-k.
 
 pub loop-k-preserved : goal.loop-k-preserved
 loop-k-preserved c = (
-  due_more c.args.words.now c.loop-k.k _ _ c.loop-k.invariant.0 c.next-due-left.ensures,
-  lowest_more (entry_refusal c.args.words.now) c.loop-k.k c.loop-k.invariant.1 (sym c.fault-at.ensures ∙ c.in-default.is),
+  due_more c.args.words.now c.loop-k.k _ _ c.loop-k.invariant.0 c.next_due-left.ensures,
+  lowest_more (entry_refusal c.args.words.now) c.loop-k.k c.loop-k.invariant.1 (sym c.fault_at.ensures ∙ c.in_default.is),
 )

@@ -9,6 +9,6 @@ returns-in-Some c = sym (lowest_found (template_refusal c.args.words.now) c.loop
 
 pub loop-k-preserved : goal.loop-k-preserved
 loop-k-preserved c = (
-  due_more c.args.words.now c.loop-k.k _ _ c.loop-k.invariant.0 c.next-due-left.ensures,
-  lowest_more (template_refusal c.args.words.now) c.loop-k.k c.loop-k.invariant.1 (sym c.template-at.ensures ∙ c.in-default.is),
+  due_more c.args.words.now c.loop-k.k _ _ c.loop-k.invariant.0 c.next_due-left.ensures,
+  lowest_more (template_refusal c.args.words.now) c.loop-k.k c.loop-k.invariant.1 (sym c.template_at.ensures ∙ c.in_default.is),
 )

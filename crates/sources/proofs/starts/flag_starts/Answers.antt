@@ -16,6 +16,6 @@ loop-k-preserved c =
       | then-k-ge1 w ↦ (let a = w.starts-is in let b = w.if-k-ge1.true in grind (arith, nat_tests))
       | else-k-ge1 w ↦ (let a = w.starts-is in let b = w.if-k-ge1.false in grind (arith, nat_tests))
     ] in (
-      due_more ws k _ _ i c.next-due-left.ensures,
+      due_more ws k _ _ i c.next_due-left.ensures,
       below_more _ _ (λ j h. let ne : j ≢ k = omega arith in rw get_or-set_other (c.loop-k.invariant.1 j h)) (rw get_or-set_same here),
     )

@@ -3,9 +3,9 @@ use Rattle.layouts.specs.Table.{Accepted}
 use Rattle.sources.proofs.FlagLaws.{copied_flags}
 use Rattle.sources.proofs.table.copied.Goals as goal
 
-pub invariant-of-result : goal.invariant-of-result
-invariant-of-result c =
-    let words = c.in-Ok-from-slice.ensures in
+pub invariant_of-result : goal.invariant_of-result
+invariant_of-result c =
+    let words = c.in-Ok-from_slice.ensures in
     let flags = c.in-Ok.ensures in
     let n = length c.args.words.now - 0 in
     let t = length-take n c.args.starts.now in (

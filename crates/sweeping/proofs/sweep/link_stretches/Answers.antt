@@ -27,7 +27,7 @@ returns c =
     let d = subst D one c.loop-at.invariant in
     record {
       answer = d.count;
-      words = state_done _ _ c.loop-at.words _ _ _ _ _ c.size-of.result _ _ (omega arith) (omega arith) c.close-next-2.ensures c.run-word.ensures c.size-of.ensures (omega arith) refl d;
+      words = state_done _ _ c.loop-at.words _ _ _ _ _ c.size_of.result _ _ (omega arith) (omega arith) c.close-next-2.ensures c.run_word.ensures c.size_of.ensures (omega arith) refl d;
       once = one_sweep;
       room = room_law;
     }

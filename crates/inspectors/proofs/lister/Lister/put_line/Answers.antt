@@ -22,21 +22,21 @@ module _ (s t u v : Lister) (k l m n : List ℕ) (room : Room s (k ++ (l ++ (m +
       (then_appended t u w l _ (front_room t l _ (second e)) f
       (then_appended u v w m n (front_room u m n (third e f)) g h))
 
-pub put-number-requires : goal.put-number-requires
-put-number-requires c = front_room c.args.self.now (decimal c.args.code) _ c.requires
+pub put_number-requires : goal.put_number-requires
+put_number-requires c = front_room c.args.self.now (decimal c.args.code) _ c.requires
 
-pub put-spaced-requires : goal.put-spaced-requires
-put-spaced-requires c =
+pub put_spaced-requires : goal.put_spaced-requires
+put_spaced-requires c =
     let s = c.args.self.now in let k = decimal c.args.code in let l = spaced c.args.address in let m = flat_map spaced c.args.words.now in
-    front_room c.put-number.new.self l (m ++ (10 ∷ [])) (second s c.put-number.new.self s s k l m (10 ∷ []) c.requires c.put-number.ensures)
+    front_room c.put_number.new.self l (m ++ (10 ∷ [])) (second s c.put_number.new.self s s k l m (10 ∷ []) c.requires c.put_number.ensures)
 
-pub put-words-requires : goal.put-words-requires
-put-words-requires c =
+pub put_words-requires : goal.put_words-requires
+put_words-requires c =
     let s = c.args.self.now in let k = decimal c.args.code in let l = spaced c.args.address in let m = flat_map spaced c.args.words.now in
-    front_room c.put-spaced.new.self m (10 ∷ []) (third s c.put-number.new.self c.put-spaced.new.self s k l m (10 ∷ []) c.requires c.put-number.ensures c.put-spaced.ensures)
+    front_room c.put_spaced.new.self m (10 ∷ []) (third s c.put_number.new.self c.put_spaced.new.self s k l m (10 ∷ []) c.requires c.put_number.ensures c.put_spaced.ensures)
 
 pub put-requires : goal.put-requires
-put-requires c = fourth c.args.self.now _ _ _ (decimal c.args.code) (spaced c.args.address) (flat_map spaced c.args.words.now) (10 ∷ []) c.requires c.put-number.ensures c.put-spaced.ensures c.put-words.ensures
+put-requires c = fourth c.args.self.now _ _ _ (decimal c.args.code) (spaced c.args.address) (flat_map spaced c.args.words.now) (10 ∷ []) c.requires c.put_number.ensures c.put_spaced.ensures c.put_words.ensures
 
 pub returns : goal.returns
-returns c = whole c.args.self.now _ _ _ (decimal c.args.code) (spaced c.args.address) (flat_map spaced c.args.words.now) (10 ∷ []) c.requires _ c.put-number.ensures c.put-spaced.ensures c.put-words.ensures c.put.ensures
+returns c = whole c.args.self.now _ _ _ (decimal c.args.code) (spaced c.args.address) (flat_map spaced c.args.words.now) (10 ∷ []) c.requires _ c.put_number.ensures c.put_spaced.ensures c.put_words.ensures c.put.ensures

@@ -5,8 +5,8 @@ use Rattle.inspectors.specs.Lines.{Room, appended, spaced}
 use Rattle.inspectors.proofs.Appends.{then_room, appended_twice, appended_none, spaced_more}
 use Rattle.inspectors.proofs.lister.Lister.put_words.Goals as goal
 
-pub put-spaced-requires : goal.put-spaced-requires
-put-spaced-requires c =
+pub put_spaced-requires : goal.put_spaced-requires
+put_spaced-requires c =
     let l = c.loop-w in
     let more = spaced_more c.args.words.now l.w-index 0 c.loop-w-test.true in
     omega (arith, ap length more, length-append (spaced (get_or c.args.words.now l.w-index 0)) (flat_map spaced (drop (l.w-index + 1) c.args.words.now)), l.invariant.0)
@@ -18,7 +18,7 @@ loop-w-preserved c =
     let more = spaced_more c.args.words.now l.w-index 0 c.loop-w-test.true in
     let room = subst (Room l.self) more l.invariant.0 in
     let fits : Room l.self (spaced w) = omega (arith, room, length-append (spaced w) (flat_map spaced (drop (l.w-index + 1) c.args.words.now))) in
-    (then_room l.self _ (spaced w) _ room c.put-spaced.ensures, ap (λ x. appended x (flat_map spaced (drop (l.w-index + 1) c.args.words.now))) c.put-spaced.ensures ∙ appended_twice l.self (spaced w) fits _ ∙ ap (appended l.self) (sym more) ∙ l.invariant.1)
+    (then_room l.self _ (spaced w) _ room c.put_spaced.ensures, ap (λ x. appended x (flat_map spaced (drop (l.w-index + 1) c.args.words.now))) c.put_spaced.ensures ∙ appended_twice l.self (spaced w) fits _ ∙ ap (appended l.self) (sym more) ∙ l.invariant.1)
 
 pub returns : goal.returns
 returns c =

@@ -4,9 +4,9 @@ use Rattle.sources.proofs.table.Table.new.Goals as goal
 
 pub copied-requires : goal.copied-requires
 copied-requires c =
-    let e = ap is_some c.in-default.is in
-    let r = c.check-into.ensures in
+    let e = ap is_some c.in_default.is in
+    let r = c.check_into.ensures in
     (sym (ap is_some r.refusal) ∙ e, (r.flags e, r.short e))
 
 pub returns : goal.returns
-returns c = answered c.args.words.now c.copied.result (sym c.check-into.ensures.refusal ∙ c.in-default.is) c.copied.ensures
+returns c = answered c.args.words.now c.copied.result (sym c.check_into.ensures.refusal ∙ c.in_default.is) c.copied.ensures

@@ -2,7 +2,7 @@
 use Rattle.std.proofs.Common.{ℕ, ◌≤◌, List, length}
 use Rattle.layouts.specs.Table.{Accepted}
 use Rattle.layouts.specs.Statements.{AcceptedExactly, TableMeans}
-use Rattle.layouts.proofs.Sound.{Sound, sound, accepted}
+use Rattle.layouts.proofs.Sound.{sound, accepted}
 use Rattle.layouts.proofs.Accepted.{rule_sound, same_meaning}
 use Rattle.layouts.proofs.Cut.{sound_rule}
 

@@ -1,17 +1,17 @@
 -- Words that follow the template rule get no refusal, and mean what their templates mean.
-use Rattle.std.proofs.Common.{◌≡◌, ℕ, zero, suc, ◌+◌, ◌-◌, ◌<◌, ◌≤◌, Bool, true, false, cond, ◌&&◌, eqb, leb, ◌⊎◌, List, [], ◌∷◌, length, get_or, Some, None, Option, sym, refl, ap, ◌∙◌, subst, inl, inr, arith}
+use Rattle.std.proofs.Common.{◌≡◌, ℕ, zero, suc, ◌+◌, ◌-◌, ◌<◌, ◌≤◌, Bool, true, false, cond, ◌&&◌, leb, ◌⊎◌, List, [], ◌∷◌, length, get_or, Some, None, Option, sym, refl, ap, ◌∙◌, subst, inl, inr, arith}
 use Rattle.std.proofs.lemmas.List.{get_or_past}
 use Rattle.std.proofs.lemmas.Bool.Decides.{nat_tests}
-use Rattle.std.proofs.lemmas.Bool.{cases_lt, cases_Bool, cond-true, cond-false}
+use Rattle.std.proofs.lemmas.Bool.{cases_lt, cases_Bool, cond-true}
 use Rattle.std.specs.Result.{result_err}
 use Rattle.layouts.specs.declared.entry.Entry.{Entry}
 use Rattle.layouts.specs.declared.entry.Entry.TheVariants.{Z, P, Code}
-use Rattle.layouts.specs.Templates.{Template, word_of, template_from, template_at, Names, Entries, FollowsRule, size_in, entry_in, types_of}
+use Rattle.layouts.specs.Templates.{Template, word_of, template_at, Names, Entries, FollowsRule, size_in, entry_in, types_of}
 use Rattle.layouts.specs.Table.{due, begins, entry_said, entry_of, table}
 use Rattle.layouts.specs.Statements.{Same}
 use Rattle.layouts.proofs.Due.{due_inside, begins_parts, begins_from}
 use Rattle.layouts.proofs.Sound.{Sound, fine_z, fine_pointer, fine_code}
-use Rattle.layouts.proofs.Stands.{At, Stands, stands_from, stands_at, stands_all, Located, locate, stands_has}
+use Rattle.layouts.proofs.Stands.{At, Stands, stands_from, stands_at, stands_all, locate, stands_has}
 
 -- an entry is Z, P or a code
 kinds : (e : Entry) → (e ≡ Z) ⊎ ((e ≡ P) ⊎ ((k : ℕ) × (e ≡ Code k)))

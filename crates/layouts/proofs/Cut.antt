@@ -1,12 +1,12 @@
 -- Words that get no refusal follow the template rule: cut into templates, they are those templates written out.
-use Rattle.std.proofs.Common.{◌≡◌, ℕ, zero, suc, ◌+◌, ◌-◌, ◌<◌, ◌≤◌, Bool, true, false, eqb, ◌⊎◌, List, [], ◌∷◌, ◌++◌, map, length, get_or, take, drop, sym, refl, ap, ◌∙◌, subst, inl, inr, arith}
+use Rattle.std.proofs.Common.{◌≡◌, ℕ, zero, suc, ◌+◌, ◌-◌, ◌<◌, ◌≤◌, true, List, [], ◌∷◌, ◌++◌, map, length, get_or, take, drop, sym, refl, ap, ◌∙◌, subst, inl, inr, arith}
 use Rattle.std.specs.List.{AllByRecursion as All}
 use Rattle.std.proofs.lemmas.List.{length-map, length-take-le, length-drop, get_or-map, get_or-take, get_or-drop, drop_more, drop_all}
 use Rattle.std.proofs.lemmas.Bool.Decides.{nat_tests}
 use Rattle.std.proofs.lemmas.Bool.{cases_lt}
 use Rattle.layouts.specs.declared.entry.Entry.{Entry}
 use Rattle.layouts.specs.declared.entry.Entry.TheVariants.{Z, P, Code}
-use Rattle.layouts.specs.Templates.{Template, word_of, in_a_row, template_at, Names, ZFirst, Entries, FollowsRule}
+use Rattle.layouts.specs.Templates.{Template, word_of, in_a_row, Names, ZFirst, Entries, FollowsRule}
 use Rattle.layouts.specs.Table.{due, begins, entry_of}
 use Rattle.layouts.proofs.Due.{due_inside, due_next, begins_parts}
 use Rattle.layouts.proofs.Sound.{Sound, said_pointer, said_code}

@@ -1,8 +1,7 @@
 -- A word whose entry is not Z is one of its type's words.
-use Rattle.std.proofs.Common.{◌≡◌, ℕ, ◌≤◌, ◌⊎◌, Some, None, Option, sym, refl, ◌∙◌, inl, inr, arith}
+use Rattle.std.proofs.Common.{◌≡◌, ℕ, ◌≤◌, ◌⊎◌, Some, None, Option, refl, inl, inr, arith}
 use Rattle.std.proofs.lemmas.Bool.{cases_lt}
-use Rattle.layouts.specs.declared.entry.Entry.{Entry}
-use Rattle.layouts.specs.declared.entry.Entry.TheVariants.{Z, P, Code}
+use Rattle.layouts.specs.declared.entry.Entry.TheVariants.{P, Code}
 use Rattle.layouts.specs.Types.{Types, Lawful, Within}
 
 within_of : (o : Option ℕ) (i : ℕ) → ((n : ℕ) × (o ≡ Some n) × (1 ≤ i) × (i ≤ n)) ⊎ (((n : ℕ) × (o ≡ Some n) × (1 ≤ i) × (i ≤ n)) → ⊥)

@@ -1,10 +1,8 @@
 -- A lawful source with some words read as Z is lawful.
-use Rattle.std.proofs.Common.{◌≡◌, ℕ, ◌+◌, Bool, true, false, cond, List, refl, arith}
+use Rattle.std.proofs.Common.{◌≡◌, ℕ, ◌+◌, Bool, true, false, cond, refl, arith}
 use Rattle.layouts.specs.declared.entry.Entry.{Entry}
 use Rattle.layouts.specs.declared.entry.Entry.TheVariants.{Z, P, Code}
-use Rattle.layouts.specs.declared.place.Place.{Place}
-use Rattle.layouts.specs.Types.{Types, Lawful, Within}
-use Rattle.layouts.specs.Mask.{among, masked}
+use Rattle.layouts.specs.Mask.{among}
 use Rattle.layouts.specs.Statements.{MaskLawful}
 
 -- what is not Z under a mask is so without it, and what is Z without it is Z under it

@@ -1,8 +1,7 @@
 -- Over a lawful source, the rule on top is lawful.
-use Rattle.std.proofs.Common.{◌≡◌, ℕ, ◌+◌, ◌-◌, ◌%◌, ◌<◌, ◌≤◌, leb, ◌⊎◌, Some, sym, refl, ◌∙◌, inl, inr, arith}
+use Rattle.std.proofs.Common.{◌≡◌, ℕ, ◌+◌, ◌⊎◌, sym, ◌∙◌, inl, inr, arith}
 use Rattle.std.proofs.lemmas.Bool.{cases_lt, le-leb, lt-leb, cond-true, cond-false}
-use Rattle.layouts.specs.declared.entry.Entry.{Entry}
-use Rattle.layouts.specs.declared.entry.Entry.TheVariants.{Z, P, Code}
+use Rattle.layouts.specs.declared.entry.Entry.TheVariants.{Z, P}
 use Rattle.layouts.specs.Types.{Types, Lawful, Within, HasCells}
 use Rattle.layouts.specs.Rule.{rule, rule_words}
 use Rattle.layouts.specs.Over.{over}

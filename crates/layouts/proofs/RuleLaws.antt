@@ -1,10 +1,8 @@
 -- The rule is lawful.
-use Rattle.std.proofs.Common.{◌≡◌, ℕ, ◌+◌, ◌-◌, ◌/◌, ◌%◌, ◌<◌, ◌≤◌, Bool, true, false, cond, ◌&&◌, eqb, ltb, leb, ◌⊎◌, Some, None, sym, refl, ◌∙◌, inl, inr, arith}
+use Rattle.std.proofs.Common.{◌≡◌, ℕ, ◌+◌, ◌%◌, ◌<◌, ◌≤◌, Bool, true, false, cond, ◌&&◌, eqb, ltb, ◌⊎◌, Some, refl, inl, inr, arith}
 use Rattle.std.proofs.lemmas.Bool.Decides.{nat_tests}
-use Rattle.std.proofs.lemmas.Bool.{cases_Bool, cond-false}
-use Rattle.layouts.specs.declared.entry.Entry.{Entry}
 use Rattle.layouts.specs.declared.entry.Entry.TheVariants.{Z, P, Code}
-use Rattle.layouts.specs.Types.{Types, Lawful, Within}
+use Rattle.layouts.specs.Types.{Within}
 use Rattle.layouts.specs.Rule.{in_rule, rule_words, rule_pairs, rule}
 use Rattle.layouts.specs.Statements.{RuleLawful}
 

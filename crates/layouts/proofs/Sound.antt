@@ -1,15 +1,12 @@
 -- What no refusal says of each word of a table, and back.
-use Rattle.std.proofs.Common.{◌≡◌, ℕ, zero, suc, ◌+◌, ◌-◌, ◌<◌, ◌≤◌, Bool, true, false, cond, not, ◌&&◌, ◌||◌, eqb, ltb, leb, ◌⊎◌, List, length, get_or, is_some, Some, None, Ok, Err, Option, Result, sym, refl, ap, ◌∙◌, subst, inl, inr, arith}
+use Rattle.std.proofs.Common.{◌≡◌, ℕ, ◌+◌, ◌<◌, ◌≤◌, Bool, true, false, cond, eqb, List, length, get_or, is_some, Some, None, Option, sym, refl, ap, ◌∙◌, inl, inr, arith}
 use Rattle.std.proofs.lemmas.Bool.Decides.{nat_tests}
 use Rattle.std.proofs.lemmas.Bool.{cond-false, cases_Bool}
 use Rattle.std.specs.Option.{option_or}
 use Rattle.std.specs.Result.{result_err}
-use Rattle.refusals.specs.declared.refusal.Refusal.{Refusal}
-use Rattle.refusals.specs.declared.refusal.Refusal.TheVariants.{TableStart, TemplateSize, TemplateEnd, EntryNumber, EntryPair, EntryName}
-use Rattle.layouts.specs.declared.entry.Entry.{Entry}
-use Rattle.layouts.specs.declared.entry.Entry.TheVariants.{Z, P, Code}
+use Rattle.refusals.specs.declared.refusal.Refusal.TheVariants.{TableStart}
 use Rattle.layouts.proofs.Lowest.{or_none, lowest_none, lowest_from}
-use Rattle.layouts.specs.Table.{due, begins, bad_start, template_refusal, entry_said, entry_refusal, lowest, table_refusal, Accepted, entry_of}
+use Rattle.layouts.specs.Table.{due, begins, bad_start, template_refusal, entry_said, entry_refusal, lowest, table_refusal, Accepted}
 
 pub record Sound (ws : List ℕ) : Type 0 where
   pub some : 1 ≤ length ws

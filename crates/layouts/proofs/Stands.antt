@@ -1,10 +1,9 @@
 -- Templates that stand in words one after the other: where each begins and what is due there.
-use Rattle.std.proofs.Common.{◌≡◌, ℕ, zero, suc, ◌+◌, ◌-◌, ◌<◌, ◌≤◌, Bool, true, false, cond, eqb, ◌⊎◌, List, [], ◌∷◌, ◌++◌, map, length, get_or, Some, None, Option, sym, refl, ap, ◌∙◌, subst, inl, inr, arith}
+use Rattle.std.proofs.Common.{◌≡◌, ℕ, suc, ◌+◌, ◌-◌, ◌<◌, ◌≤◌, eqb, List, [], ◌∷◌, ◌++◌, map, length, get_or, Some, Option, sym, refl, ap, ◌∙◌, subst, inl, inr, arith}
 use Rattle.std.specs.List.{AllByRecursion as All}
 use Rattle.std.proofs.lemmas.List.{append_assoc, length-append, length-map, get_or-append-add, get_or_append_left, get_or-map}
 use Rattle.std.proofs.lemmas.Bool.{cases_lt, cases_eq, eq-eqb, ne_eqb, cond-true, cond-false}
-use Rattle.layouts.specs.declared.entry.Entry.{Entry}
-use Rattle.layouts.specs.declared.entry.Entry.TheVariants.{Z, P, Code}
+use Rattle.layouts.specs.declared.entry.Entry.TheVariants.{Z}
 use Rattle.layouts.specs.Templates.{Template, word_of, in_a_row, template_from}
 use Rattle.layouts.specs.Table.{due}
 use Rattle.layouts.proofs.Due.{due_inside, due_next}

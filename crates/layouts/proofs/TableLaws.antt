@@ -1,11 +1,10 @@
 -- An accepted table is lawful.
-use Rattle.std.proofs.Common.{◌≡◌, ℕ, ◌+◌, ◌-◌, ◌<◌, ◌≤◌, Bool, true, false, cond, ◌&&◌, eqb, ltb, leb, ◌⊎◌, List, length, get_or, Some, None, Option, sym, refl, ap, ◌∙◌, subst, inl, inr, arith}
+use Rattle.std.proofs.Common.{◌≡◌, ℕ, ◌+◌, ◌-◌, ◌<◌, ◌≤◌, true, ◌&&◌, leb, List, length, get_or, Some, sym, ◌∙◌, subst, inl, inr, arith}
 use Rattle.std.proofs.lemmas.Bool.Decides.{nat_tests}
 use Rattle.std.proofs.lemmas.Bool.{cases_Bool, cond-false}
-use Rattle.layouts.specs.declared.entry.Entry.{Entry}
 use Rattle.layouts.specs.declared.entry.Entry.TheVariants.{Z, P, Code}
-use Rattle.layouts.specs.Types.{Types, Lawful, Within, HasCells}
-use Rattle.layouts.specs.Table.{due, begins, entry_said, table, entry_of}
+use Rattle.layouts.specs.Types.{Lawful, Within, HasCells}
+use Rattle.layouts.specs.Table.{due, begins, table}
 use Rattle.layouts.specs.Statements.{TableLawful}
 use Rattle.layouts.proofs.Due.{due_inside, begins_parts}
 use Rattle.layouts.proofs.Sound.{Sound, sound, said_pointer, said_code}

@@ -1,5 +1,5 @@
 -- Over: the rule on top of another source.
-use Rattle.std.specs.Prelude.{ℕ, cond, nat_le}
+use Rattle.std.specs.Prelude.{cond, nat_le}
 use Rattle.layouts.specs.Types.{Types}
 use Rattle.layouts.specs.Rule.{rule}
 

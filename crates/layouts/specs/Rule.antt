@@ -1,6 +1,5 @@
 -- The rule: templates for the codes 32,768 to 65,535 that need no memory.
-use Rattle.std.specs.Prelude.{ℕ, ◌+◌, ◌-◌, ◌/◌, ◌%◌, Bool, cond, ◌&&◌, Some, None, Option, ◌==◌, nat_le, nat_lt}
-use Rattle.layouts.specs.declared.entry.Entry.{Entry}
+use Rattle.std.specs.Prelude.{ℕ, ◌+◌, ◌-◌, ◌/◌, ◌%◌, Bool, cond, ◌&&◌, Some, None, ◌==◌, nat_le, nat_lt}
 use Rattle.layouts.specs.declared.entry.Entry.TheVariants.{Z, P}
 use Rattle.layouts.specs.Types.{Types}
 

@@ -1,3 +1,5 @@
 // Every refusal that the library and the script program give: its number, its layer and its place.
+#![tactic(auto)]
+
 pub mod refusal;
 pub mod table;

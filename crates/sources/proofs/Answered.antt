@@ -1,7 +1,6 @@
 -- The answer of a table's making, from the two copies of an accepted table.
-use Rattle.std.proofs.Common.{◌≡◌, ℕ, false, List, is_some, Some, None, Ok, Err, vec_items, Option, Result, sym, ap, ◌∙◌, subst, MatchResult}
-use Rattle.layouts.specs.Types.{Types}
-use Rattle.layouts.specs.Table.{Accepted, table, table_refusal}
+use Rattle.std.proofs.Common.{◌≡◌, ℕ, List, is_some, None, Ok, Err, vec_items, Result, sym, ap, subst, MatchResult}
+use Rattle.layouts.specs.Table.{table, table_refusal}
 use Rattle.layouts.specs.Statements.{MeansTemplates}
 use Rattle.layouts.proofs.Acceptance.{table_means}
 use Rattle.sources.specs.declared.error.TableError.{TableError}

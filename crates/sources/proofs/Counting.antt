@@ -1,5 +1,5 @@
 -- The references of a type, counted from word to word.
-use Rattle.std.proofs.Common.{◌≡◌, ℕ, zero, suc, ◌+◌, ◌-◌, ◌≤◌, Some, sym, refl, ap, ◌∙◌, subst, arith}
+use Rattle.std.proofs.Common.{◌≡◌, ℕ, suc, ◌+◌, ◌-◌, ◌≤◌, Some, sym, refl, ap, ◌∙◌, subst, arith}
 use Rattle.layouts.specs.declared.entry.Entry.{Entry}
 use Rattle.layouts.specs.declared.entry.Entry.TheVariants.{Z, P, Code}
 use Rattle.layouts.specs.declared.entry.Class.{Class}

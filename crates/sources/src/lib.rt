@@ -1,4 +1,6 @@
 // Template sources: the trait, the table, the rule, and the two that stand on any source.
+#![tactic(auto)]
+
 pub mod check;
 pub mod error;
 pub mod lent;

@@ -1,4 +1,4 @@
-use Rattle.std.proofs.Common.{sym, ap, ◌∙◌, inl, inr}
+use Rattle.std.proofs.Common.{sym, ◌∙◌, inl, inr}
 use Rattle.std.proofs.lemmas.List.{at_drop_all}
 use Rattle.layouts.specs.Mask.{among}
 use Rattle.sources.proofs.Among.{among_here, among_later}

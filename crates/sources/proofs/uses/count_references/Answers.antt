@@ -1,4 +1,4 @@
-use Rattle.std.proofs.Common.{◌≡◌, ◌+◌, ◌≤◌, sym, ap, ◌∙◌, arith}
+use Rattle.std.proofs.Common.{sym, arith}
 use Rattle.sources.proofs.Counting.{counted_none, counted_pointer, counted_code, counted_plain, counted_small}
 use Rattle.sources.proofs.uses.count_references.Goals as goal
 

@@ -1,8 +1,3 @@
-use Rattle.std.proofs.Common.{◌≡◌, ℕ, ◌<◌, ◌≤◌, Bool, true, false, List, length, get_or, sym, ◌∙◌, subst, arith}
-use Rattle.layouts.specs.Table.{Accepted, begins}
-use Rattle.layouts.proofs.Sound.{sound}
-use Rattle.layouts.proofs.TableLaws.{entry_within}
-use Rattle.sources.specs.Flags.{Flags}
 use Rattle.sources.proofs.FlagLaws.{flagged_within}
 use Rattle.sources.proofs.table.TableTemplateSource.entry.Goals as goal
 

@@ -15,7 +15,7 @@ pub(crate) enum Arguments<'a> {
 
 // The next number, and what follows it.
 fn argument<'a>(rest: Part<'a>) -> Option<(Part<'a>, Part<'a>)>
-    requires { (Follows rest.text.now) × (rest.at + length rest.text.now < 2 ^ 64) }
+    requires { Follows rest.text.now × (rest.at + length rest.text.now < 2 ^ 64) }
     ensures { Leads rest.entry result }
 {
     let (word, after) = next(rest)?;
@@ -25,7 +25,7 @@ fn argument<'a>(rest: Part<'a>) -> Option<(Part<'a>, Part<'a>)>
 
 // The one, two or three numbers that follow.
 pub(crate) fn gather<'a>(follow: Part<'a>) -> Option<Arguments<'a>>
-    requires { (Follows follow.text.now) × (follow.at + length follow.text.now < 2 ^ 64) }
+    requires { Follows follow.text.now × (follow.at + length follow.text.now < 2 ^ 64) }
     ensures { Gathered follow.entry result }
 {
     let (first, rest) = argument(follow)?;

@@ -88,13 +88,13 @@ fn with_one<'a>(name: &[u8], hold: Part<'a>) -> Option<Command<'a>>
     requires { name.now ≢ codes "types" }
     ensures { (n : ℕ) → Writes hold.entry.text.now n → Picks name.now ((hold.entry, n) ∷ []) result }
 {
-    if name == *b"heap" {
+    if name == b"heap".as_slice() {
         parse_heap(hold)
-    } else if name == *b"take" {
+    } else if name == b"take".as_slice() {
         Some(Command::Take { hold })
-    } else if name == *b"release" {
+    } else if name == b"release".as_slice() {
         Some(Command::Release { hold })
-    } else if name == *b"tell" {
+    } else if name == b"tell".as_slice() {
         Some(Command::Tell { hold })
     } else {
         None
@@ -105,12 +105,12 @@ fn with_two<'a>(name: &[u8], first: Part<'a>, second: Part<'a>) -> Option<Comman
     requires { name.now ≢ codes "types" }
     ensures { (m : ℕ) (n : ℕ) → Picks name.now ((first.entry, m) ∷ (second.entry, n) ∷ []) result }
 {
-    if name == *b"copy" {
+    if name == b"copy".as_slice() {
         Some(Command::Copy {
             from: first,
             to: second,
         })
-    } else if name == *b"look" {
+    } else if name == b"look".as_slice() {
         Some(Command::Look {
             hold: first,
             word: second,
@@ -129,25 +129,25 @@ fn with_three<'a>(
     requires { name.now ≢ codes "types" }
     ensures { (l : ℕ) (m : ℕ) (n : ℕ) → Picks name.now ((hold.entry, l) ∷ (second.entry, m) ∷ (third.entry, n) ∷ []) result }
 {
-    if name == *b"note" {
+    if name == b"note".as_slice() {
         Some(Command::Note {
             hold,
             code: second,
             number: third,
         })
-    } else if name == *b"set" {
+    } else if name == b"set".as_slice() {
         Some(Command::Set {
             hold,
             word: second,
             number: third,
         })
-    } else if name == *b"put" {
+    } else if name == b"put".as_slice() {
         Some(Command::Put {
             hold,
             word: second,
             from: third,
         })
-    } else if name == *b"fetch" {
+    } else if name == b"fetch".as_slice() {
         Some(Command::Fetch {
             hold,
             word: second,
@@ -159,7 +159,7 @@ fn with_three<'a>(
 }
 
 fn parse_words<'a>(name: &[u8], follow: Part<'a>) -> Option<Command<'a>>
-    requires { (Follows follow.text.now) × ((follow.at + length follow.text.now < 2 ^ 64) × ((name.now ≢ codes "types"))) }
+    requires { Follows follow.text.now × (follow.at + length follow.text.now < 2 ^ 64) × (name.now ≢ codes "types") }
     ensures { ParsesWords name.now follow.entry result }
 {
     match gather(follow)? {
@@ -180,7 +180,7 @@ fn parse<'a>(line: &'a [u8]) -> Option<Command<'a>>
         text,
         at: name.len(),
     };
-    if name == *b"types" {
+    if name == b"types".as_slice() {
         parse_types(follow)
     } else {
         parse_words(name, follow)

@@ -1,4 +1,6 @@
 // A line of the script, kept as it comes and read into a command.
+#![tactic(auto)]
+
 mod arguments;
 pub mod buffer;
 pub mod command;

@@ -26,7 +26,7 @@ pub fn number(word: &[u8]) -> Option<u32>
 
 // Writes the numbers that follow a word into the buffer, and answers how many they are.
 fn collect(follow: Part<'_>, buffer: &mut [u32]) -> Option<usize>
-    requires { (Follows follow.text.now) × (follow.at + length follow.text.now < 2 ^ 64) }
+    requires { Follows follow.text.now × (follow.at + length follow.text.now < 2 ^ 64) }
     ensures { Collects follow.entry.text.now buffer.new result }
 {
     let mut rest = follow;

@@ -32,7 +32,7 @@ pub(crate) fn cut<'a>(text: &'a [u8]) -> (&'a [u8], &'a [u8])
 
 // The next word after a word, and what follows it.
 pub(crate) fn next<'a>(rest: Part<'a>) -> Option<(Part<'a>, Part<'a>)>
-    requires { (Follows rest.text.now) × (rest.at + length rest.text.now < 2 ^ 64) }
+    requires { Follows rest.text.now × (rest.at + length rest.text.now < 2 ^ 64) }
     ensures { Next rest.entry result }
 {
     if rest.text.is_empty() {

@@ -20,7 +20,7 @@ argument-requires-2 c =
 
 pub returns-in_err-second : goal.returns-in_err-second
 returns-in_err-second c =
-    subst (Gathered c.args.follow) (sym c.from-residual-in_err-second.ensures)
+    subst (Gathered c.args.follow) (sym c.from_residual-in_err-second.ensures)
     (λ ns l h k.
     let o = others_of c.args.follow c.in_ok-first.first c.in_ok-first.rest c.in_ok-first.ensures.0 (some c.in_ok-first.rest.text.now c.if-is_empty.ensures) ns l in
     c.in_err-second.ensures o.others o.listed o.some)
@@ -39,7 +39,7 @@ argument-requires-3 c =
 
 pub returns-in_err-third : goal.returns-in_err-third
 returns-in_err-third c =
-    subst (Gathered c.args.follow) (sym c.from-residual-in_err-third.ensures)
+    subst (Gathered c.args.follow) (sym c.from_residual-in_err-third.ensures)
     (λ ns l h k.
     let o = others_of c.args.follow c.in_ok-first.first c.in_ok-first.rest c.in_ok-first.ensures.0 (some c.in_ok-first.rest.text.now c.if-is_empty.ensures) ns l in
     let p = others_of c.in_ok-first.rest c.in_ok-second.second c.in_ok-second.rest c.in_ok-second.ensures.0 (some c.in_ok-second.rest.text.now c.if-is_empty-2.ensures) o.others o.listed in

@@ -12,7 +12,7 @@ returns-then-count-buffer c = λ ns l h.
 
 pub returns-in_err-buffer : goal.returns-in_err-buffer
 returns-in_err-buffer c =
-    subst (Collects c.args.follow.text.now c.loop-word.buffer) (sym c.from-residual.ensures)
+    subst (Collects c.args.follow.text.now c.loop-word.buffer) (sym c.from_residual.ensures)
     (λ ns l h. upto_bad c.args.follow.text.now (take c.loop-word.count c.loop-word.buffer) c.loop-word.rest c.in-Some.word c.in-Some.after c.loop-word.invariant.0 c.in-Some.ensures c.in_err-buffer.ensures ns l)
 
 pub loop-word-smaller : goal.loop-word-smaller

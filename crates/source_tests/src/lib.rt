@@ -1,4 +1,6 @@
 // Tests of the table check, and of sources that stand on one another.
+#![tactic(auto)]
+
 #[cfg(test)]
 mod tests {
     use layouts::entry::{Class, Entry};
@@ -71,7 +73,7 @@ mod tests {
             Err(refusal) => {
                 assert_eq!(rt; (refusal.number(), refusal.place()), (27, 32));
                 Ok(())
-            },
+            }
         }
     }
 }

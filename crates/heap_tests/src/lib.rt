@@ -1,4 +1,6 @@
 // Tests of the calls on damaged memory, foreign hold tables and numbers out of range.
+#![tactic(auto)]
+
 #[cfg(test)]
 mod tests {
     use calls::by_number;

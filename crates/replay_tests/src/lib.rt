@@ -1,4 +1,6 @@
 // A list of calls, run on a new heap.
+#![tactic(auto)]
+
 #[cfg(test)]
 mod tests {
     use refusals::refusal::Refusal;

@@ -1,4 +1,6 @@
 // Reads the script from standard input, and prints the answer to each line before it waits for more.
+#![tactic(auto)]
+
 ghost use Rattle.std.specs.Prelude.{◌≡◌, [], IfOk, MatchResult, OnOk, ◌≢◌};
 ghost use Rattle.std.specs.declared.io.ErrorKind.TheVariants.{Interrupted};
 ghost use Rattle.lines.specs.Buffer.{held};

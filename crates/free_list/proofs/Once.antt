@@ -1,5 +1,5 @@
 -- A free list reads in one way, so taking a cell has one answer.
-use Rattle.std.proofs.Common.{◌≡◌, ℕ, ◌+◌, ◌-◌, ◌<◌, ◌≤◌, ◌⊎◌, List, [], ◌∷◌, get_or, Some, None, Ok, Err, sym, refl, ap, ◌∙◌, subst, ⊎_elim, arith}
+use Rattle.std.proofs.Common.{◌≡◌, ℕ, ◌+◌, ◌<◌, ◌≤◌, ◌⊎◌, List, [], ◌∷◌, get_or, Some, None, Ok, Err, sym, refl, ap, ◌∙◌, subst, ⊎_elim, arith}
 use Rattle.free_list.specs.declared.fault.Fault.TheVariants.{Length, Size, Broken}
 use Rattle.free_list.specs.Free.{size_of, Run, span, Next, Ending, proper, broken, Ends, Free, Reach, Smaller, FirstFit, NoFit}
 use Rattle.free_list.specs.Cells.{Cut}

@@ -7,7 +7,7 @@ use Rattle.free_list.proofs.first_fit.first_fit.Goals as goal
 
 pub returns-in_err-next_run : goal.returns-in_err-next_run
 returns-in_err-next_run c =
-    let p = err_from_is_err_and c.from-residual.result c.from-residual.ensures.1 in
+    let p = err_from_is_err_and c.from_residual.result c.from_residual.ensures.1 in
     rw (p.1, p.2) (walked_ends (broken _) c.loop-found.invariant.2 c.in_err-next_run.ensures)
 
 pub returns-in-None : goal.returns-in-None

@@ -1,4 +1,6 @@
 // Holds, and the calls by hold number that read and write cells, over any words, hold table and source.
+#![tactic(auto)]
+
 pub mod by_number;
 mod find;
 pub mod holds;

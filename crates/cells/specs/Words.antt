@@ -1,5 +1,5 @@
 -- What the words of a cell say, in any memory, and how a content is written into them.
-use Rattle.std.specs.Prelude.{ℕ, ◌+◌, ◌-◌, Bool, true, false, cond, ◌&&◌, List, length, Some, None, Option, ◌==◌, nat_le, slice_index, slice_set}
+use Rattle.std.specs.Prelude.{ℕ, ◌+◌, ◌-◌, Bool, false, cond, ◌&&◌, List, length, Some, None, Option, ◌==◌, nat_le, slice_index, slice_set}
 use Rattle.layouts.specs.declared.entry.Class.{Class}
 use Rattle.layouts.specs.declared.entry.Class.TheVariants.{Plain, Pointer, Typed, SecondHalf}
 use Rattle.layouts.specs.Types.{Types}

@@ -8,7 +8,8 @@ use crate::run::Found;
 
 // Writes 0 into `n` words from `at` on.
 fn clear(words: &mut [u32], at: u32, n: u32)
-    requires { (at + n ≤ length words.old) × (length words.old ≤ 65536) }
+    requires within { at + n ≤ length words.old }
+    requires long { length words.old ≤ 65536 }
     ensures { words.new ≡ zeroed words.old at n }
 {
     for i in 0..n {

@@ -6,7 +6,8 @@ use crate::run::Found;
 
 // The run that the link in word `link_at` leads to, where the run before it ends at `end`.
 fn next_run(words: &[u32], link_at: u32, end: u32) -> Result<Option<Found>, u32>
-    requires { (link_at < length words.now) × (length words.now ≤ 65536) }
+    requires within { link_at < length words.now }
+    requires long { length words.now ≤ 65536 }
     ensures { MatchResult result (λ o. MatchOption o (link_of (slice_index_or words.now link_at 0) ≡ 0) (λ f. (f.link_at ≡ link_at) × Next words.now link_at end f.run f.size)) (λ q. (q ≡ link_at) × BrokenLink words.now link_at end) }
 {
     let run = link_of(words[link_at as usize]);
@@ -26,7 +27,8 @@ fn next_run(words: &[u32], link_at: u32, end: u32) -> Result<Option<Found>, u32>
 
 // The first run of `n` words or more; or the word that holds a broken link, where the walk gets to one.
 pub(crate) fn first_fit(words: &[u32], n: u32) -> Result<Option<Found>, u32>
-    requires { (2 ≤ length words.now) × (length words.now ≤ 65536) }
+    requires some { 2 ≤ length words.now }
+    requires long { length words.now ≤ 65536 }
     ensures { MatchResult result (λ o. MatchOption o (NoFit words.now n proper) (λ f. FirstFit words.now n f.link_at f.run f.size)) (λ q. NoFit words.now n (broken q)) }
 {
     let mut link_at = 0;

@@ -19,7 +19,9 @@ use sweeping::sweep::sweep;
 
 // A cell of n words from the first run that has room, or none.
 fn take_run(words: &mut [u32], n: u32) -> Result<Option<u32>, Refusal>
-    requires { (2 ≤ length words.old) × ((length words.old ≤ 65536) × (1 ≤ n)) }
+    requires some { 2 ≤ length words.old }
+    requires long { length words.old ≤ 65536 }
+    requires room { 1 ≤ n }
     ensures { MatchResult result (λ o. MatchOption o (NoFit words.old n proper × (words.new ≡ words.old)) (λ a. Given words.old n words.new a)) (λ f. (q : ℕ) × (f ≡ Broken q) × NoFit words.old n (broken q) × (words.new ≡ words.old)) }
 {
     match take_cell(words, n) {
@@ -56,7 +58,8 @@ fn find_cell<S: TemplateSource>(
     source: &S,
     n: u32,
 ) -> Result<u32, Refusal>
-    requires { (memory_due (length words.old) (length marks.old) (length pending.old) ≡ None) × (1 ≤ n) }
+    requires memory { memory_due (length words.old) (length marks.old) (length pending.old) ≡ None }
+    requires room { 1 ≤ n }
     ensures { Found (S.TemplateSource.meaning source.now) words.old holds.now.records n words.new result }
 {
     if let Some(address) = take_run(words, n)? {

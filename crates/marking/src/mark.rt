@@ -23,7 +23,9 @@ fn scan_root<S: TemplateSource>(
     source: &S,
     root: Content,
 ) -> Result<u32, Refusal>
-    requires { (length marks.old ≡ length words.now) × ((length words.now ≤ length pending.old) × (length words.now ≤ 65536)) }
+    requires marks { length marks.old ≡ length words.now }
+    requires places { length words.now ≤ length pending.old }
+    requires long { length words.now ≤ 65536 }
     ensures { Scans (S.TemplateSource.meaning source.now) words.now (root ∷ []) marks.old marks.new result }
 {
     let Content::Cell { code, address } = root else {
@@ -45,7 +47,9 @@ fn scan_roots<S: TemplateSource>(
     records: &[HoldRecord],
     source: &S,
 ) -> Result<u32, Refusal>
-    requires { (length marks.old ≡ length words.now) × ((length words.now ≤ length pending.old) × (length words.now ≤ 65536)) }
+    requires marks { length marks.old ≡ length words.now }
+    requires places { length words.now ≤ length pending.old }
+    requires long { length words.now ≤ 65536 }
     ensures { Scans (S.TemplateSource.meaning source.now) words.now (roots records.now) marks.old marks.new result }
 {
     let mut visits = 0;

@@ -1,5 +1,5 @@
 -- Marks: one byte for each word of the heap, 1 where it is marked.
-use Rattle.std.specs.Prelude.{◌≡◌, ℕ, zero, suc, ◌+◌, cond, List, [], ◌∷◌, set, ◌==◌, slice_index, slice_set}
+use Rattle.std.specs.Prelude.{◌≡◌, ℕ, zero, suc, ◌+◌, cond, List, [], ◌∷◌, ◌==◌, slice_index, slice_set}
 
 abbrev pub IsMarked : List ℕ → ℕ → Type 0
 IsMarked m a = slice_index m a ≡ 1

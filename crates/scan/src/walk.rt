@@ -35,8 +35,10 @@ fn enter<S: TemplateSource>(
     code: u32,
     address: u32,
 ) -> usize
-    requires code_nonzero { (0 < width (S.TemplateSource.meaning source.now) code) × (address + width (S.TemplateSource.meaning source.now) code ≤ length marks.old) }
-    requires marks_in_bounds { (depth + unmarked marks.old ≤ length marks.old) × (length marks.old ≤ length pending.old) }
+    requires some { 0 < width (S.TemplateSource.meaning source.now) code }
+    requires within { address + width (S.TemplateSource.meaning source.now) code ≤ length marks.old }
+    requires room { depth + unmarked marks.old ≤ length marks.old }
+    requires places { length marks.old ≤ length pending.old }
     ensures { Entered (S.TemplateSource.meaning source.now) code address marks.old pending.old depth marks.new pending.new result }
 {
     let is_marked = marks[address as usize] == 1;
@@ -96,7 +98,7 @@ fn turn<S: TemplateSource, I: Inspector>(
     source: &S,
     inspector: &mut I,
 ) -> Next
-    requires depth_nonzero { 0 < depth }
+    requires deep { 0 < depth }
     requires good { Good (S.TemplateSource.meaning source.now) (length words.now) marks.old pending.old depth }
     ensures { Turned (S.TemplateSource.meaning source.now) words.now I.Inspector.step marks.old pending.old depth inspector.old marks.new pending.new inspector.new result }
 {
@@ -133,8 +135,9 @@ fn walk<S: TemplateSource, I: Inspector>(
     code: u32,
     address: u32,
 ) -> Scanned
-    requires marks_len { (length marks.old ≡ length words.now) × (length words.now ≤ length pending.old) }
-    requires address_value { fits (S.TemplateSource.meaning source.now) (length words.now) code address ≡ true }
+    requires marks { length marks.old ≡ length words.now }
+    requires places { length words.now ≤ length pending.old }
+    requires fit { fits (S.TemplateSource.meaning source.now) (length words.now) code address ≡ true }
     ensures { Traced (S.TemplateSource.meaning source.now) words.now I.Inspector.step code address marks.old inspector.old marks.new inspector.new result }
 {
     let mut depth = enter(marks, pending, 0, source, code, address);

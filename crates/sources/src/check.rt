@@ -16,7 +16,9 @@ fn is_bad_start(words: &[u32]) -> bool
 
 // The refusal of the template that begins at a word, if one begins there and is refused.
 fn template_at(words: &[u32], left: u32, k: usize) -> Option<Refusal>
-    requires { (k < length words.now) × ((length words.now ≤ 32768) × (left ≡ due words.now k)) }
+    requires within { k < length words.now }
+    requires short { length words.now ≤ 32768 }
+    requires left { left ≡ due words.now k }
     ensures { result ≡ template_refusal words.now k }
 {
     let index = k as u32;
@@ -48,8 +50,11 @@ fn first_bad_template(words: &[u32]) -> Option<Refusal>
 
 // What a word says as an entry, where `left` entries are due: Z, P, a code, or a fault.
 fn entry_at(words: &[u32], starts: &[bool], left: u32, k: usize) -> Result<Entry, Refusal>
-    requires k_in_bounds { (k < length words.now) × (length words.now ≤ 32768) }
-    requires words_in_bounds { (length words.now ≤ length starts.now) × ((Flags words.now starts.now) × (left ≡ due words.now k)) }
+    requires within { k < length words.now }
+    requires short { length words.now ≤ 32768 }
+    requires long { length words.now ≤ length starts.now }
+    requires flagged { Flags words.now starts.now }
+    requires left { left ≡ due words.now k }
     ensures { result ≡ entry_said words.now k }
 {
     let index = k as u32;
@@ -68,8 +73,11 @@ fn entry_at(words: &[u32], starts: &[bool], left: u32, k: usize) -> Result<Entry
 
 // The refusal of the entry at a word, if it is an entry and is refused.
 fn fault_at(words: &[u32], starts: &[bool], left: u32, k: usize) -> Option<Refusal>
-    requires k_in_bounds { (k < length words.now) × (length words.now ≤ 32768) }
-    requires words_in_bounds { (length words.now ≤ length starts.now) × ((Flags words.now starts.now) × (left ≡ due words.now k)) }
+    requires within { k < length words.now }
+    requires short { length words.now ≤ 32768 }
+    requires long { length words.now ≤ length starts.now }
+    requires flagged { Flags words.now starts.now }
+    requires left { left ≡ due words.now k }
     ensures { result ≡ entry_refusal words.now k }
 {
     if left == 0 {
@@ -79,8 +87,9 @@ fn fault_at(words: &[u32], starts: &[bool], left: u32, k: usize) -> Option<Refus
 }
 
 fn first_bad_entry(words: &[u32], starts: &[bool]) -> Option<Refusal>
-    requires words_len_bound { length words.now ≤ 32768 }
-    requires words_in_bounds { (length words.now ≤ length starts.now) × (Flags words.now starts.now) }
+    requires short { length words.now ≤ 32768 }
+    requires long { length words.now ≤ length starts.now }
+    requires flagged { Flags words.now starts.now }
     ensures { result ≡ lowest (entry_refusal words.now) (length words.now) }
 {
     let mut left = 0;

@@ -57,7 +57,9 @@ impl TemplateSource for Table {
 
 // The table of words that are accepted, with their flags.
 fn copied(heap: Global, words: &[u32], starts: &[bool]) -> Result<Table, TableError>
-    requires { (Accepted words.now) × ((Flags words.now starts.now) × (length words.now ≤ length starts.now)) }
+    requires accepted { Accepted words.now }
+    requires flagged { Flags words.now starts.now }
+    requires long { length words.now ≤ length starts.now }
     ensures { MatchResult result (λ t. t.words.items ≡ words.now) (λ e. e ≡ NoMemory) }
 {
     let Ok(flags) = Vec::from_slice(heap, &starts[0..words.len()]) else {

@@ -7,7 +7,8 @@ use refusals::refusal::Refusal;
 
 // How many words from word 1 on are unmarked.
 fn count_unmarked(marks: &[u8]) -> u32
-    requires { (1 ≤ length marks.now) × (length marks.now ≤ 65536) }
+    requires some { 1 ≤ length marks.now }
+    requires long { length marks.now ≤ 65536 }
     ensures { result ≡ unmarked (drop 1 marks.now) }
 {
     let mut free = 0;

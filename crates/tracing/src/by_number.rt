@@ -23,8 +23,10 @@ fn scan_cell<S: TemplateSource, I: Inspector>(
     code: u32,
     address: u32,
 ) -> Result<u32, Refusal>
-    requires marks_value { (marks.old ≡ replicate (length words.now) 0) × ((length words.now ≤ length pending.old) × (length words.now ≤ 65536)) }
-    requires address_value { fits (S.TemplateSource.meaning source.now) (length words.now) code address ≡ true }
+    requires clear { marks.old ≡ replicate (length words.now) 0 }
+    requires places { length words.now ≤ length pending.old }
+    requires long { length words.now ≤ 65536 }
+    requires fit { fits (S.TemplateSource.meaning source.now) (length words.now) code address ≡ true }
     ensures { Scanned (S.TemplateSource.meaning source.now) words.now I.Inspector.step code address inspector.old inspector.new result }
 {
     let Ok(scanned) = scan(words, marks, pending, source, inspector, code, address) else {

@@ -9,13 +9,13 @@ use Rattle.scan.proofs.walk.walk.Goals as goal
 
 pub enter-depth-requires : goal.enter-depth-requires
 enter-depth-requires g c =
-    let i = inside_fits (g.S.TemplateSource.meaning c.args.source.now) (length c.args.words.now) c.args.code c.args.address c.requires.1 in
-    omega (arith, unmarked_all c.args.marks.now, i.some, i.within)
+    let i = inside_fits (g.S.TemplateSource.meaning c.args.source.now) (length c.args.words.now) c.args.code c.args.address c.requires.fit in
+    record { some = i.some; within = omega (arith, i.within); room = omega (arith, unmarked_all c.args.marks.now); places = omega arith }
 
 pub loop-depth-init : goal.loop-depth-init
 loop-depth-init g c =
     let t = g.S.TemplateSource.meaning c.args.source.now in
-    let i = inside_fits t (length c.args.words.now) c.args.code c.args.address c.requires.1 in
+    let i = inside_fits t (length c.args.words.now) c.args.code c.args.address c.requires.fit in
     let good = begun t (length c.args.words.now) c.args.code c.args.address c.args.marks.now c.args.pending.now _ _ _ i (omega arith) (omega arith) c.enter-depth.ensures in
     (good, omega (arith, good.room), ([], refl, λ us m s e r. r))
 
@@ -30,14 +30,14 @@ pub returns-in-Stop : goal.returns-in-Stop
 returns-in-Stop g c =
     let t = g.S.TemplateSource.meaning c.args.source.now in
     let inv = c.loop-depth.invariant in
-    let i = inside_fits t (length c.args.words.now) c.args.code c.args.address c.requires.1 in
+    let i = inside_fits t (length c.args.words.now) c.args.code c.args.address c.requires.fit in
     let lt : 0 < length c.args.pending.now = omega (arith, i.some, i.within) in
-    traced t c.args.words.now g.I.Inspector.step c.args.code c.args.address c.args.marks.now c.args.pending.now _ _ _ c.args.inspector.now inv.2.0 _ _ _ _ _ _ _ c.loop-depth.visits c.requires.0.0 c.requires.1 lt c.enter-depth.ensures inv.2.2 c.in-Stop.ensures inv.2.1 (omega (arith, inv.1))
+    traced t c.args.words.now g.I.Inspector.step c.args.code c.args.address c.args.marks.now c.args.pending.now _ _ _ c.args.inspector.now inv.2.0 _ _ _ _ _ _ _ c.loop-depth.visits c.requires.marks c.requires.fit lt c.enter-depth.ensures inv.2.2 c.in-Stop.ensures inv.2.1 (omega (arith, inv.1))
 
 pub returns : goal.returns
 returns g c =
     let t = g.S.TemplateSource.meaning c.args.source.now in
     let inv = c.loop-depth.invariant in
-    let i = inside_fits t (length c.args.words.now) c.args.code c.args.address c.requires.1 in
+    let i = inside_fits t (length c.args.words.now) c.args.code c.args.address c.requires.fit in
     let lt : 0 < length c.args.pending.now = omega (arith, i.some, i.within) in
-    traced t c.args.words.now g.I.Inspector.step c.args.code c.args.address c.args.marks.now c.args.pending.now _ _ _ c.args.inspector.now inv.2.0 _ _ _ _ _ _ _ c.loop-depth.visits c.requires.0.0 c.requires.1 lt c.enter-depth.ensures inv.2.2 (out_of_frames t c.args.words.now g.I.Inspector.step c.loop-depth.pending c.loop-depth.depth c.loop-depth.marks c.loop-depth.inspector c.loop-depth-test.false) inv.2.1 (omega (arith, inv.1))
+    traced t c.args.words.now g.I.Inspector.step c.args.code c.args.address c.args.marks.now c.args.pending.now _ _ _ c.args.inspector.now inv.2.0 _ _ _ _ _ _ _ c.loop-depth.visits c.requires.marks c.requires.fit lt c.enter-depth.ensures inv.2.2 (out_of_frames t c.args.words.now g.I.Inspector.step c.loop-depth.pending c.loop-depth.depth c.loop-depth.marks c.loop-depth.inspector c.loop-depth-test.false) inv.2.1 (omega (arith, inv.1))

@@ -9,6 +9,6 @@ invariant_of-result c =
     let flags = c.in-Ok.ensures in
     let n = length c.args.words.now - 0 in
     let t = length-take n c.args.starts.now in record {
-      accepted = subst Accepted (sym words.items) c.requires.0;
-      flagged = (copied_flags _ _ c.args.starts.now _ n (omega arith) words.items flags.items c.requires.1.0, omega (arith, words.len, flags.len, t, c.requires.1.1));
+      accepted = subst Accepted (sym words.items) c.requires.accepted;
+      flagged = (copied_flags _ _ c.args.starts.now _ n (omega arith) words.items flags.items c.requires.flagged, omega (arith, words.len, flags.len, t, c.requires.long));
     }

@@ -1,5 +1,5 @@
 -- The lines of visits, one after the other, in a buffer.
-use Rattle.std.proofs.Common.{◌≡◌, ℕ, ◌+◌, ◌≤◌, Bool, true, false, cond, leb, List, [], ◌∷◌, ◌++◌, length, drop, Some, None, sym, refl, ap, ◌∙◌, subst, zero-add, arith, length-append, Bor, leb-false, leb-true}
+use Rattle.std.proofs.Common.{◌≡◌, ℕ, ◌+◌, ◌≤◌, Bool, true, false, cond, leb, List, [], ◌∷◌, ◌++◌, length, drop, Some, None, sym, refl, ap, ◌∙◌, subst, zero-add, arith, length-append, MutBor, leb-false, leb-true}
 use borrow.Author.Tests.{lt-leb}
 use Rattle.scan.specs.Visits.{Visit, holds, then_holds}
 use Rattle.inspectors.specs.declared.lister.Lister.{Lister}
@@ -27,11 +27,11 @@ lists : (vs : List Visit) (s t : Lister) → s.used ≤ length s.out.now → hol
 lists [] s t fits h = let e : s ≡ t = cc in (omega arith, sym e ∙ sym (appended_none s fits))
 lists (v ∷ vs) s t fits h = after s t v vs (λ u k g. lists vs u t k g) _ refl h
 
-from_start : (buffer : Bor (List ℕ)) (text : List ℕ) → Holds buffer text (appended (unwritten buffer) text)
+from_start : (buffer : MutBor (List ℕ)) (text : List ℕ) → Holds buffer text (appended (unwritten buffer) text)
 unfolding appended
 from_start buffer text = (ap (λ k. with_now buffer (text ++ drop k buffer.now)) (zero-add (length text)), zero-add (length text))
 
-pub writes : (buffer : Bor (List ℕ)) → Writes buffer (unwritten buffer)
+pub writes : (buffer : MutBor (List ℕ)) → Writes buffer (unwritten buffer)
 writes buffer vs t h =
     let r = lists vs (unwritten buffer) t (omega arith) h in
     let is : Holds buffer (listing vs) t = subst (Holds buffer (listing vs)) (sym r.1) (from_start buffer (listing vs)) in

@@ -1,5 +1,5 @@
 -- A lister is the text that it has written.
-use Rattle.std.proofs.Common.{◌≡◌, ℕ, ◌+◌, ◌≤◌, min, Bool, true, false, cond, leb, List, ◌++◌, length, take, Some, None, Option, sym, refl, ap, ◌∙◌, subst, arith, length-take-le, take_all, leb-false, leb-true}
+use Rattle.std.proofs.Common.{◌≡◌, ℕ, ◌+◌, min, Bool, true, false, cond, leb, List, ◌++◌, length, take, Some, None, sym, refl, ap, ◌∙◌, subst, arith, length-take-le, take_all, leb-false, leb-true}
 use Rattle.layouts.specs.Types.{Types}
 use Rattle.scan.specs.Visits.{Visit}
 use Rattle.scan.specs.Scan.{Run, Task}

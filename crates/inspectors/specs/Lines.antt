@@ -1,6 +1,6 @@
 -- The text of a line, and a lister that holds more text.
 use Rattle.std.specs.Prelude.{◌≡◌, ℕ, ◌+◌, ◌<◌, ◌≤◌, List, [], ◌∷◌, ◌++◌, length, take, drop, decimal}
-use Rattle.std.specs.Borrow.{Bor}
+use Rattle.std.specs.Borrow.{MutBor}
 use Rattle.std.specs.List.{flat_map}
 use Rattle.inspectors.specs.declared.lister.Lister.{Lister}
 
@@ -13,8 +13,8 @@ abbrev pub line : ℕ → ℕ → List ℕ → List ℕ
 line code address words = decimal code ++ (spaced address ++ (flat_map spaced words ++ (10 ∷ [])))
 
 -- a reference to other content
-abbrev pub with_now : {X : Type 0} → Bor X → X → Bor X
-with_now r x = record { ref_ptr = r.ptr; ghost_name = r.name; now = x }
+abbrev pub with_now : {X : Type 0} → MutBor X → X → MutBor X
+with_now r x = record r { now = x }
 
 -- bs fits after what s holds
 abbrev pub Room : Lister → List ℕ → Type 0

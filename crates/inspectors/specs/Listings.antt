@@ -1,6 +1,6 @@
 -- What a visit does to a lister, and what the buffer holds after visits.
 use Rattle.std.specs.Prelude.{◌≡◌, ℕ, ◌+◌, ◌<◌, ◌≤◌, cond, List, ◌++◌, length, take, drop, Some, None, Option, nat_le}
-use Rattle.std.specs.Borrow.{Bor}
+use Rattle.std.specs.Borrow.{MutBor}
 use Rattle.std.specs.List.{flat_map}
 use Rattle.scan.specs.Visits.{Visit, holds}
 use Rattle.inspectors.specs.Lines.{line, with_now, appended}
@@ -26,7 +26,7 @@ abbrev pub Spans : ℕ → Lister → Type 0
 Spans room s = (s.used ≤ length s.out.now) × (length s.out.now ≡ room)
 
 -- nothing written yet
-abbrev pub unwritten : Bor (List ℕ) → Lister
+abbrev pub unwritten : MutBor (List ℕ) → Lister
 unwritten buffer = record { out = buffer; used = 0 }
 
 -- the lines of visits, one after the other
@@ -34,9 +34,9 @@ abbrev pub listing : List Visit → List ℕ
 listing vs = flat_map line_of vs
 
 -- the buffer holds the text, and past it what it held before
-abbrev pub Holds : Bor (List ℕ) → List ℕ → Lister → Type 0
+abbrev pub Holds : MutBor (List ℕ) → List ℕ → Lister → Type 0
 Holds buffer text t = (t.out ≡ with_now buffer (text ++ drop (length text) buffer.now)) × (t.used ≡ length text)
 
 -- after any visits the buffer holds their lines, and a visit is refused just where its line has no room
-abbrev pub Writes : Bor (List ℕ) → Lister → Type 0
+abbrev pub Writes : MutBor (List ℕ) → Lister → Type 0
 Writes buffer s = (vs : List Visit) (t : Lister) → holds lister_step s vs ≡ Some t → Holds buffer (listing vs) t × ((v : Visit) → (lister_step t v ≡ None → length buffer.now < length (listing vs) + length (line_of v)) × (length buffer.now < length (listing vs) + length (line_of v) → lister_step t v ≡ None))

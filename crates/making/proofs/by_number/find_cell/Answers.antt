@@ -6,21 +6,21 @@ use Rattle.making.proofs.by_number.find_cell.Goals as goal
 
 pub returns-in_err-address : goal.returns-in_err-address
 returns-in_err-address g c =
-    let e = err_from_is_err_and c.from-residual.result c.from-residual.ensures.1 in
+    let e = err_from_is_err_and c.from_residual.result c.from_residual.ensures.1 in
     let q = e.2 in
-    let is : c.from-residual.result ≡ Err c.in_err-address.field-0.0 = cc (e.1, q) in
-    link_broken (g.S.TemplateSource.meaning c.args.source.now) c.args.words.now c.args.holds.now.records c.args.n c.take_run.new.words c.in_err-address.field-0.0 c.from-residual.result is c.in_err-address.ensures
+    let is : c.from_residual.result ≡ Err c.in_err-address.field-0.0 = cc (e.1, q) in
+    link_broken (g.S.TemplateSource.meaning c.args.source.now) c.args.words.now c.args.holds.now.records c.args.n c.take_run.new.words c.in_err-address.field-0.0 c.from_residual.result is c.in_err-address.ensures
 
 pub returns-in-Some : goal.returns-in-Some
 returns-in-Some g c = at_hand (given c.args.words.now c.args.n c.take_run.new.words c.in_ok-address.field-0 c.in-Some.address c.in-Some.is c.in_ok-address.ensures)
 
 pub returns-in_err-collect : goal.returns-in_err-collect
 returns-in_err-collect g c =
-    let e = err_from_is_err_and c.from-residual-in_err-collect.result c.from-residual-in_err-collect.ensures.1 in
+    let e = err_from_is_err_and c.from_residual-in_err-collect.result c.from_residual-in_err-collect.ensures.1 in
     let q = e.2 in
-    let is : c.from-residual-in_err-collect.result ≡ Err c.in_err-collect.field-0.0 = cc (e.1, q) in
+    let is : c.from_residual-in_err-collect.result ≡ Err c.in_err-collect.field-0.0 = cc (e.1, q) in
     let full = none c.args.words.now c.args.n c.take_run.new.words c.in_ok-address.field-0 c.in_default.is c.in_ok-address.ensures in
-    stopped_there (g.S.TemplateSource.meaning c.args.source.now) c.args.words.now c.args.holds.now.records c.args.n c.take_run.new.words full c.collect.new.words c.in_err-collect.field-0.0 c.from-residual-in_err-collect.result is c.in_err-collect.ensures
+    stopped_there (g.S.TemplateSource.meaning c.args.source.now) c.args.words.now c.args.holds.now.records c.args.n c.take_run.new.words full c.collect.new.words c.in_err-collect.field-0.0 c.from_residual-in_err-collect.result is c.in_err-collect.ensures
 
 pub returns-in_err-address-2 : goal.returns-in_err-address-2
 returns-in_err-address-2 g c =

@@ -10,10 +10,10 @@ loop-hold-init g c = at_first (g.S.TemplateSource.meaning c.args.source.now) c.a
 pub returns-in_err-visits : goal.returns-in_err-visits
 returns-in_err-visits g c =
     let t = g.S.TemplateSource.meaning c.args.source.now in
-    let e = err_from_is_err_and c.from-residual.result c.from-residual.ensures.1 in
+    let e = err_from_is_err_and c.from_residual.result c.from_residual.ensures.1 in
     let q = e.2 in
-    let is : c.from-residual.result ≡ Err c.in_err-visits.field-0.0 = cc (e.1, q) in
-    refused_at t c.args.words.now c.args.records.now c.loop-hold.hold-index c.args.marks.now c.loop-hold.marks c.scan_root.new.marks c.loop-hold.visits c.scan_root.result c.from-residual.result c.in_err-visits.field-0.0 c.in_err-visits.was is c.loop-hold-test.true c.loop-hold.invariant (rw c.root.ensures at c.scan_root.ensures)
+    let is : c.from_residual.result ≡ Err c.in_err-visits.field-0.0 = cc (e.1, q) in
+    refused_at t c.args.words.now c.args.records.now c.loop-hold.hold-index c.args.marks.now c.loop-hold.marks c.scan_root.new.marks c.loop-hold.visits c.scan_root.result c.from_residual.result c.in_err-visits.field-0.0 c.in_err-visits.was is c.loop-hold-test.true c.loop-hold.invariant (rw c.root.ensures at c.scan_root.ensures)
 
 pub overflow_add-visits : goal.overflow_add-visits
 overflow_add-visits g c =

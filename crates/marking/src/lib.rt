@@ -1,3 +1,5 @@
 // Marking from all holds.
+#![tactic(auto)]
+
 pub mod answer;
 pub mod mark;

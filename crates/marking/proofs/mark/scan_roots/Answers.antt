@@ -19,7 +19,7 @@ pub overflow_add-visits : goal.overflow_add-visits
 overflow_add-visits g c =
     let t = g.S.TemplateSource.meaning c.args.source.now in
     let one : Scans t c.args.words.now (c.root.result ∷ []) c.loop-hold.marks c.scan_root.new.marks (Ok c.in_ok-visits.field-0) = c.in_ok-visits.ensures in
-    let low : c.loop-hold.visits + c.in_ok-visits.field-0 ≤ length c.args.words.now = few t c.args.words.now c.args.records.now c.loop-hold.hold-index c.root.result c.args.marks.now c.loop-hold.marks c.scan_root.new.marks c.loop-hold.visits c.in_ok-visits.field-0 c.requires.0 c.loop-hold.invariant one in
+    let low : c.loop-hold.visits + c.in_ok-visits.field-0 ≤ length c.args.words.now = few t c.args.words.now c.args.records.now c.loop-hold.hold-index c.root.result c.args.marks.now c.loop-hold.marks c.scan_root.new.marks c.loop-hold.visits c.in_ok-visits.field-0 c.requires.marks c.loop-hold.invariant one in
     let small : c.loop-hold.visits + c.in_ok-visits.field-0 < 4294967296 = omega arith in
     search rules
 

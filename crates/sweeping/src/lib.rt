@@ -1,4 +1,6 @@
 // The sweep: each longest stretch of unmarked words becomes a run of the free list.
+#![tactic(auto)]
+
 pub mod survey;
 pub mod sweep;
 

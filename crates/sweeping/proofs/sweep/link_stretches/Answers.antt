@@ -1,4 +1,4 @@
-use Rattle.std.proofs.Common.{◌≡◌, ℕ, ◌-◌, refl, subst, arith}
+use Rattle.std.proofs.Common.{◌≡◌, ℕ, refl, subst, arith}
 use Rattle.sweeping.proofs.Sweeps.{State, state_start, state_marked, state_unmarked, state_done}
 use Rattle.sweeping.proofs.Rooms.{room_law}
 use Rattle.sweeping.proofs.Once.{one_sweep}

@@ -7,7 +7,7 @@ use Rattle.calls.specs.declared.record.HoldRecord.{HoldRecord}
 use Rattle.free_list.specs.Free.{NoFit, proper, broken}
 use Rattle.free_list.specs.Taken.{Given}
 use Rattle.sweeping.proofs.Rooms.{never_broken}
-use Rattle.making.specs.Makes.{Collected, swept, stopped, Found, at_hand, broken_link, broken_content, collected, no_run}
+use Rattle.making.specs.Makes.{Collected, swept, Found, broken_link, broken_content, collected, no_run}
 
 -- a cell was taken, or no run has room
 abbrev pub Took : List ℕ → ℕ → List ℕ → Option ℕ → Type 0

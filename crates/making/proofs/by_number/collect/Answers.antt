@@ -1,4 +1,4 @@
-use Rattle.std.proofs.Common.{◌≡◌, ℕ, Err, Result, sym, subst}
+use Rattle.std.proofs.Common.{◌≡◌, Err, Result, sym, subst}
 use Rattle.std.proofs.lemmas.Result.{err_from_is_err_and}
 use Rattle.refusals.specs.declared.refusal.Refusal.{Refusal}
 use Rattle.making.specs.Makes.{Collected, swept, stopped}

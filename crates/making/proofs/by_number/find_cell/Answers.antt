@@ -1,4 +1,4 @@
-use Rattle.std.proofs.Common.{◌≡◌, Some, None, Ok, Err}
+use Rattle.std.proofs.Common.{◌≡◌, Err}
 use Rattle.std.proofs.lemmas.Result.{err_from_is_err_and}
 use Rattle.making.specs.Makes.{at_hand}
 use Rattle.making.proofs.Finding.{given, none, link_broken, stopped_there, never, after, none_after}

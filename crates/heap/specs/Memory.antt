@@ -1,5 +1,5 @@
 -- Lent memory: when a heap may stand on it, and what a new heap holds.
-use Rattle.std.specs.Prelude.{◌≡◌, ℕ, ◌-◌, ◌*◌, List, [], ◌∷◌, length, replicate, Some, None, Ok, Err, Result}
+use Rattle.std.specs.Prelude.{◌≡◌, ℕ, ◌-◌, ◌*◌, List, ◌∷◌, length, replicate, Some, None, Ok, Err, Result}
 use Rattle.std.specs.Borrow.{MutBor}
 use Rattle.refusals.specs.declared.refusal.Refusal.{Refusal}
 use Rattle.heap.specs.declared.memory.Memory.{Memory}

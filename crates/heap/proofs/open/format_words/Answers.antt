@@ -1,5 +1,4 @@
-use Rattle.std.proofs.Common.{◌≡◌, ◌≤◌, length, sym, ◌∙◌, arith}
-use Rattle.std.proofs.lemmas.Bool.Decides.{nat_tests}
+use Rattle.std.proofs.Common.{length, sym}
 use Rattle.heap.proofs.NewWords.{served, written_new}
 use Rattle.heap.proofs.open.format_words.Goals as goal
 

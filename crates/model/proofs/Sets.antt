@@ -1,6 +1,6 @@
 -- Lists without repetition.
 use Rattle.std.proofs.Common.{◌≡◌, ℕ, suc, ◌≤◌, ◌⊎◌, List, [], ◌∷◌, ◌++◌, length, sym, refl, ap, ◌∙◌, subst, inl, inr, arith}
-use Rattle.model.specs.Sets.{Among, Distinct, Lists, Number}
+use Rattle.model.specs.Sets.{Among, Distinct, Number}
 use Rattle.std.proofs.lemmas.Bool.{cases_eq}
 
 pub among_join : (k : ℕ) (xs ys : List ℕ) → Among k (xs ++ ys) → Among k xs ⊎ Among k ys

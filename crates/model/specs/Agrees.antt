@@ -1,5 +1,5 @@
 -- When words and hold records agree with a model.
-use Rattle.std.specs.Prelude.{◌≡◌, ℕ, suc, ◌+◌, ◌<◌, ◌≤◌, true, List, map, length, get_or}
+use Rattle.std.specs.Prelude.{◌≡◌, ℕ, suc, ◌<◌, true, List, map, length}
 use Rattle.layouts.specs.Types.{Types}
 use Rattle.cells.specs.Words.{cell_free, fits}
 use Rattle.calls.specs.declared.record.HoldRecord.{HoldRecord}

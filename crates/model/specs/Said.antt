@@ -1,5 +1,5 @@
 -- What the words of a cell say, in the model's terms.
-use Rattle.std.specs.Prelude.{ℕ, List, Some, None, Option, slice_index}
+use Rattle.std.specs.Prelude.{ℕ, List, Some, Option, slice_index}
 use Rattle.layouts.specs.declared.entry.Class.{Class}
 use Rattle.layouts.specs.declared.entry.Class.TheVariants.{Plain, Pointer, Typed, SecondHalf}
 use Rattle.layouts.specs.Types.{Types}

@@ -1,5 +1,5 @@
 -- The free list beside the reached cells.
-use Rattle.std.specs.Prelude.{ℕ, ◌+◌, ◌<◌, ◌≤◌, ◌⊎◌, List, [], ◌∷◌, length}
+use Rattle.std.specs.Prelude.{ℕ, ◌+◌, ◌<◌, ◌≤◌, ◌⊎◌, List, [], ◌∷◌}
 use Rattle.layouts.specs.Types.{Types}
 use Rattle.calls.specs.declared.record.HoldRecord.{HoldRecord}
 use Rattle.free_list.specs.Free.{Run, span, proper, Free}

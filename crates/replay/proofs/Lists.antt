@@ -4,7 +4,7 @@ use lib.ListN.{length-replicate}
 use Rattle.layouts.specs.Types.{Types, Lawful}
 use Rattle.calls.specs.Rows.{row_1}
 use Rattle.scan.specs.Visits.{Visit}
-use Rattle.free_list.specs.Free.{Run, span, proper, Free}
+use Rattle.free_list.specs.Free.{span, proper, Free}
 use Rattle.heap.specs.Memory.{new_words}
 use Rattle.heap.proofs.NewWords.{served}
 use Rattle.model.specs.Model.{Model}

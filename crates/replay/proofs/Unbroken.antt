@@ -1,5 +1,5 @@
 -- What is right by the model is never number 7 or 10.
-use Rattle.std.proofs.Common.{◌≡◌, ℕ, ◌-◌, min, Bool, true, false, ◌&&◌, eqb, leb, ◌⊎◌, List, [], ◌∷◌, length, is_some, Some, None, Option, sym, refl, subst, inl, inr, arith}
+use Rattle.std.proofs.Common.{◌≡◌, ℕ, ◌-◌, min, Bool, true, false, ◌&&◌, eqb, leb, List, [], ◌∷◌, length, is_some, Some, None, Option, sym, subst, inl, inr, arith}
 use Rattle.std.specs.Option.{option_or}
 use Rattle.refusals.specs.declared.refusal.Refusal.{Refusal}
 use Rattle.refusals.specs.declared.refusal.Refusal.TheVariants.{MemorySize, NoType, TypeSize, NoCell, NoWord, WordClass}
@@ -11,13 +11,13 @@ use Rattle.calls.specs.Holds.{Has, is_cell, code_of}
 use Rattle.calls.specs.Rows.{first_due, unless, memory_due, row_1, row_2, row_3, row_4, row_5, row_5_cell, row_6, row_8, row_9, plain, reference, takes}
 use Rattle.scan.specs.Visits.{Visit}
 use Rattle.scan.specs.Children.{width}
-use Rattle.model.specs.Model.{Model, Made, Hold, free, held, Value, nothing, cell, immediate, Word, number, second, value, hold_of, word_of, reading}
+use Rattle.model.specs.Model.{Model, Made, Hold, free, held, nothing, cell, immediate, Word, number, second, value, hold_of, word_of, reading}
 use Rattle.replay.specs.declared.call.CellCall.{CellCall}
 use Rattle.replay.specs.declared.call.CellCall.TheVariants.{Take, Release, Note, Copy, Tell, Look, Set, Put, Fetch}
 use Rattle.replay.specs.declared.call.Call.{Call}
 use Rattle.replay.specs.declared.call.Call.TheVariants.{Cell, Make, Trace, Mark, Survey, Unmark, Sweep}
 use Rattle.replay.specs.declared.call.Answer.{Answer}
-use Rattle.replay.specs.declared.call.Answer.TheVariants.{Done, Told, Number, Refused}
+use Rattle.replay.specs.declared.call.Answer.TheVariants.{Done, Number, Refused}
 use Rattle.replay.specs.States.{State}
 use Rattle.replay.specs.Telling.{of_cell}
 use Rattle.replay.specs.Table.{cell_rows, cell_due, make_due, trace_due}

@@ -1,5 +1,5 @@
 -- The refusal table, read on the model and the call. There is no row 7 and no row 10.
-use Rattle.std.specs.Prelude.{ℕ, min, true, false, List, [], ◌∷◌, Option}
+use Rattle.std.specs.Prelude.{ℕ, true, false, List, [], ◌∷◌, Option}
 use Rattle.refusals.specs.declared.refusal.Refusal.{Refusal}
 use Rattle.layouts.specs.Types.{Types}
 use Rattle.calls.specs.Rows.{first_due, memory_due, row_2, row_3, row_4, row_5, row_5_cell, row_6, row_8, row_9, plain, reference, takes}

@@ -1,8 +1,8 @@
 -- What a call and its answer tell the model. Only accepted calls write it.
 use Rattle.std.specs.Prelude.{ℕ, ◌-◌, List, [], ◌∷◌}
 use Rattle.layouts.specs.Types.{Types}
-use Rattle.model.specs.Model.{Model, Hold, free, held, Value, nothing, cell, immediate, Word, number, second, value, hold_of, word_of}
-use Rattle.model.specs.Told.{new_model, with_hold, with_word, with_new}
+use Rattle.model.specs.Model.{Model, Hold, free, held, nothing, cell, immediate, Word, number, second, value, hold_of, word_of}
+use Rattle.model.specs.Told.{with_hold, with_word, with_new}
 use Rattle.replay.specs.declared.call.CellCall.{CellCall}
 use Rattle.replay.specs.declared.call.CellCall.TheVariants.{Take, Release, Note, Copy, Tell, Look, Set, Put, Fetch}
 use Rattle.replay.specs.declared.call.Call.{Call}

@@ -1,8 +1,8 @@
-use Rattle.std.proofs.Common.{◌≡◌, ℕ, ◌<◌, ◌≤◌, min, length, get_or, take, set, sym, refl, ap, ◌∙◌, subst, inl, inr, arith, get_or-set_other, rules}
+use Rattle.std.proofs.Common.{◌≡◌, ◌<◌, length, get_or, set, sym, ap, ◌∙◌, subst, inl, inr, arith, get_or-set_other, rules}
 use lib.Seq.{set-get_or}
-use Rattle.replay.specs.States.{State, new_state, events}
+use Rattle.replay.specs.States.{State, new_state}
 use Rattle.std.proofs.lemmas.List.{get_or_default}
-use Rattle.replay.specs.Steps.{Run, CallStep}
+use Rattle.replay.specs.Steps.{CallStep}
 use Rattle.replay.specs.Replays.{exists_in}
 use Rattle.replay.proofs.Joined.{run_more, ran}
 use Rattle.replay.proofs.replay.replay.Goals as goal

@@ -4,7 +4,8 @@ use Rattle.sources.specs.declared.over.Over.{Over}
 use Rattle.sources.specs.declared.table.Table.{Table}
 use Rattle.calls.specs.declared.record.HoldRecord.{HoldRecord}
 use Rattle.calls.specs.Holds.{unheld}
-use Rattle.heap.specs.Memory.{row_1, new_words}
+use Rattle.calls.specs.Rows.{row_1}
+use Rattle.heap.specs.Memory.{new_words}
 use Rattle.lines.specs.Requests.{heap}
 use Rattle.script.specs.declared.reply.Reply.TheVariants.{Done}
 use Rattle.script.specs.declared.store.Heap.{Heap}

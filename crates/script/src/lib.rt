@@ -1,4 +1,6 @@
 // A session of the script: it obeys a line, and answers it.
+#![tactic(auto)]
+
 mod reply;
 pub mod session;
 mod store;

@@ -13,8 +13,8 @@ returns c = λ h i g wh wi wg.
       c.fetch.new.holds.records,
       c.fetch.result,
       at_three (λ h i g. Fetches types c.args.self.now.words.items records h i g c.fetch.new.holds.records c.fetch.result)
-          (c.value-hold.ensures h wh) (c.value_word.ensures i wi) (c.value-to.ensures g wg)
-          (subst (λ w. Fetches types w records c.value-hold.result c.value_word.result c.value-to.result c.fetch.new.holds.records c.fetch.result) c.as_slice-words.ensures.value c.fetch.ensures),
+          (c.value-hold.ensures h wh) (c.value-word.ensures i wi) (c.value-to.ensures g wg)
+          (subst (λ w. Fetches types w records c.value-hold.result c.value-word.result c.value-to.result c.fetch.new.holds.records c.fetch.result) c.as_slice-words.ensures.value c.fetch.ensures),
       refl,
       c.of_call.ensures,
     )

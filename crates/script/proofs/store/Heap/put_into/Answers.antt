@@ -15,8 +15,8 @@ returns c = λ h i n wh wi wn.
       c.put.new.words,
       c.put.result,
       at_three (λ h i n. Puts types c.args.self.now.words.items records h i n c.put.new.words c.put.result)
-          (c.value-hold.ensures h wh) (c.value_word.ensures i wi) (c.value-from.ensures n wn)
-          (subst (λ w. Puts types w records c.value-hold.result c.value_word.result c.value-from.result c.put.new.words c.put.result) c.as_mut_slice-words.ensures.value c.put.ensures),
+          (c.value-hold.ensures h wh) (c.value-word.ensures i wi) (c.value-from.ensures n wn)
+          (subst (λ w. Puts types w records c.value-hold.result c.value-word.result c.value-from.result c.put.new.words c.put.result) c.as_mut_slice-words.ensures.value c.put.ensures),
       ap (λ w. ready (table_words c.args.source.now) w records) (with_items_is c.args.self.now.words c.put.new.words (omega arith)),
       c.of_call.ensures,
     )

@@ -15,8 +15,8 @@ returns c = λ h i n wh wi wn.
       c.set.new.words,
       c.set.result,
       at_three (λ h i n. Sets types c.args.self.now.words.items records h i n c.set.new.words c.set.result)
-          (c.value-hold.ensures h wh) (c.value_word.ensures i wi) (c.value-number.ensures n wn)
-          (subst (λ w. Sets types w records c.value-hold.result c.value_word.result c.value-number.result c.set.new.words c.set.result) c.as_mut_slice-words.ensures.value c.set.ensures),
+          (c.value-hold.ensures h wh) (c.value-word.ensures i wi) (c.value-number.ensures n wn)
+          (subst (λ w. Sets types w records c.value-hold.result c.value-word.result c.value-number.result c.set.new.words c.set.result) c.as_mut_slice-words.ensures.value c.set.ensures),
       ap (λ w. ready (table_words c.args.source.now) w records) (with_items_is c.args.self.now.words c.set.new.words (omega arith)),
       c.of_call.ensures,
     )

@@ -1,4 +1,6 @@
 // The worked figures, proved together.
+#![tactic(auto)]
+
 ghost use Rattle.figures.specs.Figures.{Figures};
 
 use scan::inspector::Inspector;

@@ -12,14 +12,14 @@ use sources::source::TemplateSource;
 use sweeping::survey::survey;
 use sweeping::sweep::sweep;
 
-impl<'w, 'm> Open<'w, 'm> {
+impl<'m> Open<'m> {
     // Marks each cell that a hold reaches, and answers how many they are.
     pub fn mark<S: TemplateSource>(
         self,
         holds: &Holds,
         source: &S,
         pending: &mut [Frame],
-    ) -> Result<(Marked<'w, 'm>, u32), (Open<'w, 'm>, Refusal)>
+    ) -> Result<(Marked<'m>, u32), (Open<'m>, Refusal)>
         ensures { MarksHeap (S.TemplateSource.meaning source.now) holds.now.records (length pending.old) self.entry result }
     {
         let Open { words, marks } = self;
@@ -30,7 +30,7 @@ impl<'w, 'm> Open<'w, 'm> {
     }
 }
 
-impl<'w, 'm> Marked<'w, 'm> {
+impl<'m> Marked<'m> {
     // How many words a sweep would free.
     pub fn survey(&self) -> Result<u32, Refusal>
         ensures { Surveys (length self.now.words.now) self.now.marks.now result }
@@ -39,7 +39,7 @@ impl<'w, 'm> Marked<'w, 'm> {
     }
 
     // The open heap again, with no mark and with nothing freed.
-    pub fn unmark(self) -> Open<'w, 'm>
+    pub fn unmark(self) -> Open<'m>
         ensures { (Left self.entry.words result.words self.entry.words.now) × (Left self.entry.marks result.marks (replicate (length self.entry.marks.now) 0)) }
     {
         let Marked { words, marks } = self;
@@ -48,7 +48,7 @@ impl<'w, 'm> Marked<'w, 'm> {
     }
 
     // Frees every unmarked word, and answers how many they are.
-    pub fn sweep(self) -> Result<(Open<'w, 'm>, u32), (Marked<'w, 'm>, Refusal)>
+    pub fn sweep(self) -> Result<(Open<'m>, u32), (Marked<'m>, Refusal)>
         ensures { SweepsHeap self.entry result }
     {
         let Marked { words, marks } = self;

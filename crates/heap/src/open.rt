@@ -21,9 +21,9 @@ pub fn format_words(words: &mut [u32], marks: usize) -> Result<(), Refusal>
     Ok(())
 }
 
-impl<'w, 'm> Open<'w, 'm> {
+impl<'m> Open<'m> {
     // A heap on words and marks as they are.
-    pub fn adopt(memory: Memory<'w, 'm>) -> Result<Open<'w, 'm>, (Memory<'w, 'm>, Refusal)>
+    pub fn adopt(memory: Memory<'m>) -> Result<Open<'m>, (Memory<'m>, Refusal)>
         ensures { Opens (λ L w. w) memory.entry result }
     {
         match check_memory(memory.words.len(), memory.marks.len()) {
@@ -36,7 +36,7 @@ impl<'w, 'm> Open<'w, 'm> {
     }
 
     // A new heap, all of whose words but word 0 are one free run. The marks stay as they are.
-    pub fn new(memory: Memory<'w, 'm>) -> Result<Open<'w, 'm>, (Memory<'w, 'm>, Refusal)>
+    pub fn new(memory: Memory<'m>) -> Result<Open<'m>, (Memory<'m>, Refusal)>
         ensures { Opens (λ L w. new_words L) memory.entry result }
     {
         let marks = memory.marks.len();
@@ -50,7 +50,7 @@ impl<'w, 'm> Open<'w, 'm> {
     }
 
     // The memory, taken back.
-    pub fn close(self) -> Memory<'w, 'm>
+    pub fn close(self) -> Memory<'m>
         ensures { (Left self.entry.words result.words self.entry.words.now) × (Left self.entry.marks result.marks self.entry.marks.now) }
     {
         let Open { words, marks } = self;

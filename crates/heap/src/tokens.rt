@@ -34,7 +34,7 @@ fn trace_lent<S: TemplateSource, I: Inspector>(
 }
 
 // The calls of an open heap, by hold. Each is the call by hold number of the same name.
-impl<'w, 'm> Open<'w, 'm> {
+impl<'m> Open<'m> {
     pub fn take(&self, holds: &mut Holds, number: u32) -> Result<Hold, Refusal>
         ensures { Gives holds.old.records number holds.new.records result }
     {
@@ -147,8 +147,15 @@ impl<'w, 'm> Open<'w, 'm> {
         ensures words { self.new.words.ghost_name ≡ self.old.words.ghost_name }
         ensures marks { self.new.marks.ghost_name ≡ self.old.marks.ghost_name }
     {
-        let Open { words, marks } = self;
-        make(words, marks, pending, holds, source, hold.number, code)
+        make(
+            self.words,
+            self.marks,
+            pending,
+            holds,
+            source,
+            hold.number,
+            code,
+        )
     }
 
     // The marks are all zero after it, unless the memory is refused.
@@ -164,7 +171,14 @@ impl<'w, 'm> Open<'w, 'm> {
         ensures same { self.new.marks.ghost_name ≡ self.old.marks.ghost_name }
         ensures words { Left self.old.words self.new.words self.old.words.now }
     {
-        let Open { words, marks } = self;
-        trace_lent(words, marks, pending, holds, source, inspector, hold.number)
+        trace_lent(
+            self.words,
+            self.marks,
+            pending,
+            holds,
+            source,
+            inspector,
+            hold.number,
+        )
     }
 }

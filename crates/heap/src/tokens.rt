@@ -147,15 +147,9 @@ impl<'m> Open<'m> {
         ensures words { self.new.words.ghost_name ≡ self.old.words.ghost_name }
         ensures marks { self.new.marks.ghost_name ≡ self.old.marks.ghost_name }
     {
-        make(
-            self.words,
-            self.marks,
-            pending,
-            holds,
-            source,
-            hold.number,
-            code,
-        )
+        let words = &mut *self.words;
+        let marks = &mut *self.marks;
+        make(words, marks, pending, holds, source, hold.number, code)
     }
 
     // The marks are all zero after it, unless the memory is refused.
@@ -171,14 +165,8 @@ impl<'m> Open<'m> {
         ensures same { self.new.marks.ghost_name ≡ self.old.marks.ghost_name }
         ensures words { Left self.old.words self.new.words self.old.words.now }
     {
-        trace_lent(
-            self.words,
-            self.marks,
-            pending,
-            holds,
-            source,
-            inspector,
-            hold.number,
-        )
+        let words = &mut *self.words;
+        let marks = &mut *self.marks;
+        trace_lent(words, marks, pending, holds, source, inspector, hold.number)
     }
 }

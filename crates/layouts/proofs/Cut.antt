@@ -1,6 +1,6 @@
 -- Words that get no refusal follow the template rule: cut into templates, they are those templates written out.
 use Rattle.std.proofs.Common.{◌≡◌, ℕ, zero, suc, ◌+◌, ◌-◌, ◌<◌, ◌≤◌, true, List, [], ◌∷◌, ◌++◌, map, length, get_or, take, drop, sym, refl, ap, ◌∙◌, subst, inl, inr, arith}
-use Rattle.std.specs.List.{AllByRecursion as All}
+use Rattle.std.specs.List.{AllByRecursion}
 use Rattle.std.proofs.lemmas.List.{length-map, length-take-le, length-drop, get_or-map, get_or-take, get_or-drop, drop_more, drop_all}
 use Rattle.std.proofs.lemmas.Bool.Decides.{nat_tests}
 use Rattle.std.proofs.lemmas.Bool.{cases_lt}
@@ -116,7 +116,7 @@ module _ (ws : List ℕ) (s : Sound ws) where
       ∙ ap (λ n. n ∷ drop (k + 1) ws) w.0.size
       ∙ ap (λ (xs : List ℕ). length es ∷ xs) (row_of ws (k + 1) es short w.0.words ∙ ap (λ (xs : List ℕ). map word_of es ++ xs) (stand_out (k + 1 + length es) ts w.1))
 
-  cuts_small : (k : ℕ) (ts : List Template) → Cuts ws k ts → All (λ es. length es ≤ 255) ts
+  cuts_small : (k : ℕ) (ts : List Template) → Cuts ws k ts → AllByRecursion (λ es. length es ≤ 255) ts
   cuts_small k [] c = tt
   cuts_small k (es ∷ ts) c =
       let z = s.sizes k c.0 c.1 in
@@ -152,7 +152,7 @@ module _ (ws : List ℕ) (s : Sound ws) where
               subst (λ (j : ℕ). due ws j ≡ length (read_at ws k) - i) t (due_inside ws k (1 + i) d (omega arith) (omega arith) ∙ omega arith);
         })
 
-    cuts_entries : (k : ℕ) (ts : List Template) → Cuts ws k ts → All (Entries names) ts
+    cuts_entries : (k : ℕ) (ts : List Template) → Cuts ws k ts → AllByRecursion (Entries names) ts
     cuts_entries k [] c = tt
     cuts_entries k (es ∷ ts) c =
         (subst (Entries names) (sym c.2) (read_entries k c.0 c.1), cuts_entries (k + 1 + length es) ts c.3)

@@ -1,6 +1,6 @@
 -- Templates that stand in words one after the other: where each begins and what is due there.
 use Rattle.std.proofs.Common.{◌≡◌, ℕ, suc, ◌+◌, ◌-◌, ◌<◌, ◌≤◌, eqb, List, [], ◌∷◌, ◌++◌, map, length, get_or, Some, Option, sym, refl, ap, ◌∙◌, subst, inl, inr, arith}
-use Rattle.std.specs.List.{AllByRecursion as All}
+use Rattle.std.specs.List.{AllByRecursion}
 use Rattle.std.proofs.lemmas.List.{append_assoc, length-append, length-map, get_or-append-add, get_or_append_left, get_or-map}
 use Rattle.std.proofs.lemmas.Bool.{cases_lt, cases_eq, eq-eqb, ne_eqb, cond-true, cond-false}
 use Rattle.layouts.specs.declared.entry.Entry.TheVariants.{Z}
@@ -79,7 +79,7 @@ module _ (ws : List ℕ) where
         (let l = r.0 in omega arith, r.1))
   ]
 
-  pub stands_all : (Q : Template → Type 0) (k : ℕ) (ts : List Template) → All Q ts → (c : ℕ) (es : Template) → template_from k ts c ≡ Some es → Q es
+  pub stands_all : (Q : Template → Type 0) (k : ℕ) (ts : List Template) → AllByRecursion Q ts → (c : ℕ) (es : Template) → template_from k ts c ≡ Some es → Q es
   stands_all Q k [] a c es e = let z : ◌≡◌ {A = ℕ} 0 1 = cc in absurd (omega arith)
   stands_all Q k (fs ∷ ts) a c es e = elim (cases_eq c k) [
     | inl h ↦ (let g : ◌≡◌ {A = Option Template} (Some fs) (Some es) = sym (cond-true (eqb c k) _ _ (eq-eqb c k h)) ∙ e in

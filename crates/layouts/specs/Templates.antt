@@ -1,6 +1,6 @@
 -- The template rule of Fenichel's memo MAC TM-19: which words are a table of templates, and what the templates mean.
 use Rattle.std.specs.Prelude.{◌≡◌, ℕ, zero, suc, ◌+◌, ◌≤◌, cond, List, [], ◌∷◌, ◌++◌, map, length, Some, None, Option, ◌==◌, slice_index_or}
-use Rattle.std.specs.List.{AllByRecursion as All}
+use Rattle.std.specs.List.{AllByRecursion}
 use Rattle.layouts.specs.declared.entry.Entry.{Entry}
 use Rattle.layouts.specs.declared.entry.Entry.TheVariants.{Z, P, Code}
 use Rattle.layouts.specs.Types.{Types}
@@ -50,8 +50,8 @@ pub record FollowsRule (ws : List ℕ) : Type 0 where
   pub templates : List Template
   pub written : ws ≡ 0 ∷ in_a_row templates
   pub short : length ws ≤ 32768
-  pub small : All (λ es. length es ≤ 255) templates
-  pub entries : All (Entries (Names templates)) templates
+  pub small : AllByRecursion (λ es. length es ≤ 255) templates
+  pub entries : AllByRecursion (Entries (Names templates)) templates
 
 -- what templates mean: the type-code is the template's index, n is the number of its entries
 abbrev pub size_in : Option Template → Option ℕ

@@ -1,6 +1,6 @@
 -- How the script writes numbers.
 use Rattle.std.specs.Prelude.{◌≡◌, ℕ, ◌^◌, ◌<◌, ◌≤◌, List, map, length, take, Some, None, decimal, Option, ◌≢◌, slice_index}
-use Rattle.std.specs.List.{flat_map, AllByRecursion as All}
+use Rattle.std.specs.List.{flat_map, AllByRecursion}
 use Rattle.lines.specs.Words.{spaced}
 
 -- no plus in front, and no zero in front of others
@@ -16,7 +16,7 @@ Writes word n = Small n × (word ≡ decimal n)
 
 -- the text is the decimals of the numbers, each after a space
 abbrev pub Lists : List ℕ → List ℕ → Type 0
-Lists text ns = All Small ns × (text ≡ flat_map spaced (map decimal ns))
+Lists text ns = AllByRecursion Small ns × (text ≡ flat_map spaced (map decimal ns))
 
 -- how many numbers the text lists, which stand first in the buffer, unless it lists more than have room or something else
 abbrev pub Collects : List ℕ → List ℕ → Option ℕ → Type 0

@@ -1,6 +1,6 @@
 -- What a line of the script asks for, and how the line is written.
 use Rattle.std.specs.Prelude.{◌≡◌, ℕ, ◌≤◌, List, [], ◌∷◌, map, length, codes, decimal}
-use Rattle.std.specs.List.{AllByRecursion as All}
+use Rattle.std.specs.List.{AllByRecursion}
 use Rattle.lines.specs.Numbers.{Small}
 use Rattle.lines.specs.Words.{one_apart}
 
@@ -69,7 +69,7 @@ pub record Line (line : List ℕ) (q : Request) : Type 0 where
   pub written : line ≡ one_apart (name_of q ∷ map decimal (numbers_of q))
   pub short : length line ≤ 400
   pub bounded : Bounded q
-  pub small : All Small (numbers_of q)
+  pub small : AllByRecursion Small (numbers_of q)
 
 -- it asks for nothing
 abbrev pub NoLine : List ℕ → Type 0

@@ -1,6 +1,6 @@
 -- What the scans of contents, one after the other, make of the marks.
 use Rattle.std.proofs.Common.{◌≡◌, ℕ, zero, suc, ◌+◌, ◌≤◌, true, ◌⊎◌, List, [], ◌∷◌, ◌++◌, length, get_or, sym, refl, ◌∙◌, subst, inl, inr, arith, length-append}
-use Rattle.std.specs.List.{AllByRecursion as All}
+use Rattle.std.specs.List.{AllByRecursion}
 use Rattle.std.proofs.ByRecursion.{All-append, All-weaker}
 use Rattle.std.proofs.lemmas.Bool.{and_from, le-leb}
 use Rattle.layouts.specs.Types.{Types}
@@ -115,7 +115,7 @@ module _ (t : Types) (w : List ℕ) (all : List Content) where
     pub now_marked : IsMarked m' v.address
 
   abbrev pub Tells : List ℕ → List ℕ → List Visit → Type 0
-  Tells m m' vs = All (New m m') vs × Once vs
+  Tells m m' vs = AllByRecursion (New m m') vs × Once vs
 
   one_new : (c a : ℕ) (m m' : List ℕ) → fits t (length w) c a ≡ true → Reach t w all c a → (v : Visit) → Due t w c a m m' v → New m m' v
   one_new c a m m' fit at v h = record {
@@ -135,7 +135,7 @@ module _ (t : Types) (w : List ℕ) (all : List Content) where
   later : (m m₁ m₂ : List ℕ) → Grown m m₁ → (v : Visit) → New m₁ m₂ v → New m m₂ v
   later m m₁ m₂ gr v h = record { of_cell = h.of_cell; was_unmarked = λ one. h.was_unmarked (gr v.address one); now_marked = h.now_marked }
 
-  crossed : (m m₁ m₂ : List ℕ) (vs us : List Visit) → All (New m m₁) vs → All (New m₁ m₂) us → All (λ (v : Visit). All (λ (u : Visit). u.address ≡ v.address → ⊥) us) vs
+  crossed : (m m₁ m₂ : List ℕ) (vs us : List Visit) → AllByRecursion (New m m₁) vs → AllByRecursion (New m₁ m₂) us → AllByRecursion (λ (v : Visit). AllByRecursion (λ (u : Visit). u.address ≡ v.address → ⊥) us) vs
   crossed m m₁ m₂ [] us hv hu = tt
   crossed m m₁ m₂ (v ∷ vs) us hv hu = (All-weaker (New m₁ m₂) (λ (u : Visit). u.address ≡ v.address → ⊥) (λ u h same. h.was_unmarked (subst (λ x. IsMarked m₁ x) (sym same) hv.0.now_marked)) us hu, crossed m m₁ m₂ vs us hv.1 hu)
 

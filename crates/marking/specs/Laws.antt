@@ -1,6 +1,6 @@
 -- What holds of every marking from zero marks.
 use Rattle.std.specs.Prelude.{◌≡◌, ℕ, ◌≤◌, true, false, ◌⊎◌, List, length, replicate, ◌≢◌, slice_index, slice_index_or}
-use Rattle.std.specs.List.{AllByRecursion as All}
+use Rattle.std.specs.List.{AllByRecursion}
 use Rattle.layouts.specs.Types.{Types}
 use Rattle.cells.specs.declared.content.Content.{Content}
 use Rattle.cells.specs.declared.content.Content.TheVariants.{Nothing, Cell}
@@ -42,7 +42,7 @@ pub record MarkLaws (t : Types) (w : List ℕ) (ks : List Content) (vs : List Vi
   pub only : (j : ℕ) → IsMarked m' j → (c : ℕ) × (a : ℕ) × Reach t w ks c a × InCell t c a j
   -- each cell is visited at most once, and only what is reached and fits
   pub once : Once vs
-  pub due : All (OfCell t w ks) vs
+  pub due : AllByRecursion (OfCell t w ks) vs
   -- what is broken is a root that does not fit, told by address 0, or a word of a reached cell
   pub broken : (p : ℕ) → e ≡ Broken p → ((p ≡ 0) × UnfitRoot t w ks) ⊎ BrokenAt t w ks p
   pub never_full : (b : ℕ) → e ≢ Full b

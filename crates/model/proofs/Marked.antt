@@ -1,6 +1,6 @@
 -- What a marking and a trace visit and mark, in a heap that agrees with a model.
 use Rattle.std.proofs.Common.{◌≡◌, ℕ, zero, suc, List, [], ◌∷◌, map, length, get_or, replicate, None, Ok, Option, Result, sym, refl, ap, ◌∙◌, subst, ap₂, subst₂, inl, inr, arith}
-use Rattle.std.specs.List.{AllByRecursion as All}
+use Rattle.std.specs.List.{AllByRecursion}
 use Rattle.std.proofs.lemmas.List.{length-map}
 use Rattle.std.proofs.ByRecursion.{All-weaker}
 use Rattle.refusals.specs.declared.refusal.Refusal.{Refusal}
@@ -35,14 +35,14 @@ module _ (t : Types) (cs : List Made) (w : List ℕ) (R : ℕ → Type 0) where
   Of v = (k : ℕ) × R k × (v ≡ visit t cs w k)
 
   -- visits of cells of R as a list of cells
-  pub cells_of : (vs : List Visit) → All Of vs → (ks : List ℕ) × (vs ≡ map (visit t cs w) ks) × ((k : ℕ) → Among k ks → R k)
+  pub cells_of : (vs : List Visit) → AllByRecursion Of vs → (ks : List ℕ) × (vs ≡ map (visit t cs w) ks) × ((k : ℕ) → Among k ks → R k)
   cells_of [] all = ([], refl, λ k h. absurd h)
   cells_of (v ∷ vs) all =
       let one = all.0 in
       let rest = cells_of vs all.1 in
       (one.0 ∷ rest.0, ap₂ (λ (x : Visit) (xs : List Visit). x ∷ xs) one.2 rest.1, λ k h. elim h [ inl e ↦ subst R (sym e) one.1 | inr later ↦ rest.2 k later ])
 
-not_again : (t : Types) (cs : List Made) (w : List ℕ) (k : ℕ) (ks : List ℕ) → Among k ks → All (λ (u : Visit). u.address ≡ address_of cs k → ⊥) (map (visit t cs w) ks) → ⊥
+not_again : (t : Types) (cs : List Made) (w : List ℕ) (k : ℕ) (ks : List ℕ) → Among k ks → AllByRecursion (λ (u : Visit). u.address ≡ address_of cs k → ⊥) (map (visit t cs w) ks) → ⊥
 not_again t cs w k [] h all = h
 not_again t cs w k (x ∷ ks) (inl e) all = all.0 (ap (address_of cs) (sym e))
 not_again t cs w k (x ∷ ks) (inr h) all = not_again t cs w k ks h all.1
@@ -58,7 +58,7 @@ seen_among t cs w (x ∷ ks) c a (inl here) = (x, inl refl, here.1)
 seen_among t cs w (x ∷ ks) c a (inr later) = let q = seen_among t cs w ks c a later in (q.0, inr q.1, q.2)
 
 -- visits of all cells of R and of nothing else list R
-pub listed : (t : Types) (cs : List Made) (w : List ℕ) (R : ℕ → Type 0) → Tidy t cs w R → (vs : List Visit) → Once vs → All (λ v. (k : ℕ) × R k × (v ≡ visit t cs w k)) vs → ((k : ℕ) → R k → Seen vs (code_of cs k) (address_of cs k)) → (ks : List ℕ) × Lists R ks × (vs ≡ map (visit t cs w) ks)
+pub listed : (t : Types) (cs : List Made) (w : List ℕ) (R : ℕ → Type 0) → Tidy t cs w R → (vs : List Visit) → Once vs → AllByRecursion (λ v. (k : ℕ) × R k × (v ≡ visit t cs w k)) vs → ((k : ℕ) → R k → Seen vs (code_of cs k) (address_of cs k)) → (ks : List ℕ) × Lists R ks × (vs ≡ map (visit t cs w) ks)
 listed t cs w R tidy vs once all seen =
     let q = cells_of t cs w R vs all in (
       q.0,
@@ -163,7 +163,7 @@ module _ (t : Types) (b : Model) (w : List ℕ) (rs : List HoldRecord) (agrees :
   pub trace_unbroken : (p : ℕ) → e ≡ Broken p → ⊥
   trace_unbroken = laws.whole (in_order t b.cells w (InHold b.holds h) one_root one_tidy one_are)
 
-  one_visits : All (λ v. (l : ℕ) × ReachedFrom b h l × (v ≡ visit t b.cells w l)) vs
+  one_visits : AllByRecursion (λ v. (l : ℕ) × ReachedFrom b h l × (v ≡ visit t b.cells w l)) vs
   one_visits =
       All-weaker (Due t w (code_of b.cells k) (address_of b.cells k) (replicate (length w) 0) m') (λ v. (l : ℕ) × ReachedFrom b h l × (v ≡ visit t b.cells w l)) (λ v d. known_visit t b.cells w (InHold b.holds h) one_root one_tidy one_are v d.reached d.is_cell) vs laws.due
 
@@ -188,7 +188,7 @@ module _ (t : Types) (b : Model) (w : List ℕ) (rs : List HoldRecord) (agrees :
         visits = q.1;
         next = n.0;
         next_reached = n.1;
-        next_new = λ again. not_again t b.cells w n.0 q.0 again (subst₂ (λ us x. All (λ (u : Visit). u.address ≡ x → ⊥) us) q.1 n.3 (laws.unvisited a is-full));
+        next_new = λ again. not_again t b.cells w n.0 q.0 again (subst₂ (λ us x. AllByRecursion (λ (u : Visit). u.address ≡ x → ⊥) us) q.1 n.3 (laws.unvisited a is-full));
         next_place = n.3;
         refused = subst₂ (λ x y. step s' (cell_visit t w x y) ≡ None) n.2 n.3 f.2;
       }

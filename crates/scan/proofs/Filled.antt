@@ -1,6 +1,6 @@
 -- What a scan that ends undisturbed marks and visits, where reached cells do not overlap.
 use Rattle.std.proofs.Common.{◌≡◌, ℕ, ◌+◌, ◌<◌, ◌≤◌, ◌⊎◌, List, [], ◌∷◌, ◌++◌, length, Option, sym, refl, ap, ◌∙◌, subst, inl, inr, arith}
-use Rattle.std.specs.List.{AllByRecursion as All}
+use Rattle.std.specs.List.{AllByRecursion}
 use Rattle.std.proofs.lemmas.Bool.{cases_eq}
 use Rattle.layouts.specs.Types.{Types}
 use Rattle.cells.specs.declared.content.Content.{Content}
@@ -27,7 +27,7 @@ seen_right [] us c a h = h
 seen_right (v ∷ vs) us c a h = inr (seen_right vs us c a h)
 
 -- what holds of every visit holds of a cell that was seen
-pub all_seen : (P : ℕ → ℕ → Type 0) (vs : List Visit) (c a : ℕ) → All (λ (v : Visit). P v.code v.address) vs → Seen vs c a → P c a
+pub all_seen : (P : ℕ → ℕ → Type 0) (vs : List Visit) (c a : ℕ) → AllByRecursion (λ (v : Visit). P v.code v.address) vs → Seen vs c a → P c a
 all_seen P [] c a all h = absurd h
 all_seen P (v ∷ vs) c a all h =
     elim h [

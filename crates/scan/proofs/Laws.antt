@@ -1,6 +1,6 @@
 -- The laws of a scan, and a scan that was made.
 use Rattle.std.proofs.Common.{◌≡◌, ℕ, ◌<◌, ◌≤◌, true, List, [], ◌++◌, length, None, Option, sym, refl, subst, inl, inr}
-use Rattle.std.specs.List.{AllByRecursion as All}
+use Rattle.std.specs.List.{AllByRecursion}
 use Rattle.std.proofs.ByRecursion.{All-weaker}
 use Rattle.std.proofs.lemmas.List.{append-nil}
 use Rattle.layouts.specs.Types.{Types}
@@ -25,7 +25,7 @@ use Rattle.scan.proofs.Room.{room}
 use Rattle.scan.proofs.Roots.{ended}
 
 module _ (t : Types) (w : List ℕ) {S : Type 0} (step : S → Visit → Option S) (c a : ℕ) (m : List ℕ) (s : S) (vs : List Visit) (m' : List ℕ) (s' : S) (len : length m ≡ length w) (inside : Inside t (length w) c a) where
-  due_visits : (e : Ending) → Run t w step (pointer c a) m s vs m' s' e → All (Due t w c a m m') vs
+  due_visits : (e : Ending) → Run t w step (pointer c a) m s vs m' s' e → AllByRecursion (Due t w c a m m') vs
   due_visits e r =
       All-weaker (λ v. Told t w step (lone c a) m' v × (IsMarked m v.address → ⊥)) (Due t w c a m m') (λ v h. record { reached = h.0.reached; is_cell = h.0.is_cell; was_unmarked = h.1; now_marked = h.0.now_marked }) vs (tells t w step (lone c a) r len (own t w c a, inside)).0
 

@@ -1,6 +1,6 @@
 -- What a scan marks, breaks at and is refused at, against what is reached.
 use Rattle.std.proofs.Common.{◌≡◌, ℕ, zero, suc, ◌≤◌, ◌⊎◌, List, [], ◌∷◌, ◌++◌, length, get_or, None, Option, sym, refl, ap, ◌∙◌, subst, inl, inr, arith}
-use Rattle.std.specs.List.{AllByRecursion as All}
+use Rattle.std.specs.List.{AllByRecursion}
 use Rattle.std.proofs.lemmas.List.{append_assoc}
 use Rattle.std.proofs.ByRecursion.{All-append, All-weaker}
 use Rattle.layouts.specs.Types.{Types}
@@ -35,7 +35,7 @@ reach_on t w roots c a at c₁ a₁ (root h e) =
 reach_on t w roots c a at c₁ a₁ (through {c = c₂} {a = a₂} i before low le is) = through i (reach_on t w roots c a at c₂ a₂ before) low le is
 
 -- the visits of two runs, one after the other
-pub once_append : (vs us : List Visit) → Once vs → Once us → All (λ (v : Visit). All (λ (u : Visit). u.address ≡ v.address → ⊥) us) vs → Once (vs ++ us)
+pub once_append : (vs us : List Visit) → Once vs → Once us → AllByRecursion (λ (v : Visit). AllByRecursion (λ (u : Visit). u.address ≡ v.address → ⊥) us) vs → Once (vs ++ us)
 once_append [] us o₁ o₂ cross = o₂
 once_append (v ∷ vs) us o₁ o₂ cross = (All-append (λ (u : Visit). u.address ≡ v.address → ⊥) vs us o₁.0 cross.0, once_append vs us o₁.1 o₂ cross.1)
 
@@ -107,8 +107,8 @@ module _ (t : Types) (w : List ℕ) {S : Type 0} (step : S → Visit → Option 
   AnewOr a m m' v = Told m' v × ((IsMarked m v.address → ⊥) ⊎ (v.address ≡ a))
 
   abbrev Tells : Task → List ℕ → List ℕ → List Visit → Type 0
-  Tells (pointer c a) m m' vs = All (Anew m m') vs × Once vs
-  Tells (rest c a i) m m' vs = All (AnewOr a m m') vs × Once vs
+  Tells (pointer c a) m m' vs = AllByRecursion (Anew m m') vs × Once vs
+  Tells (rest c a i) m m' vs = AllByRecursion (AnewOr a m m') vs × Once vs
 
   abbrev Within : Task → List ℕ → Type 0
   Within (pointer c a) m = Reach t w roots c a × Inside t (length w) c a
@@ -132,7 +132,7 @@ module _ (t : Types) (w : List ℕ) {S : Type 0} (step : S → Visit → Option 
         | inr here ↦ hv.1 (subst (λ x. IsMarked m x) (sym here ∙ same) one)
       ]
 
-  crossed : (a : ℕ) (m m₁ m₂ : List ℕ) → IsMarked m a → (vs us : List Visit) → All (Anew m m₁) vs → All (AnewOr a m₁ m₂) us → All (λ (v : Visit). All (λ (u : Visit). u.address ≡ v.address → ⊥) us) vs
+  crossed : (a : ℕ) (m m₁ m₂ : List ℕ) → IsMarked m a → (vs us : List Visit) → AllByRecursion (Anew m m₁) vs → AllByRecursion (AnewOr a m₁ m₂) us → AllByRecursion (λ (v : Visit). AllByRecursion (λ (u : Visit). u.address ≡ v.address → ⊥) us) vs
   crossed a m m₁ m₂ one [] us hv hu = tt
   crossed a m m₁ m₂ one (v ∷ vs) us hv hu = (All-weaker (AnewOr a m₁ m₂) (λ (u : Visit). u.address ≡ v.address → ⊥) (λ u h. cross_one a m m₁ m₂ one v u hv.0 h) us hu, crossed a m m₁ m₂ one vs us hv.1 hu)
 
@@ -171,7 +171,7 @@ module _ (t : Types) (w : List ℕ) {S : Type 0} (step : S → Visit → Option 
   left (child le is r q) b is-full = elim (left q b is-full) [ inl new ↦ inl (λ one. new (grown t w step r b one)) | inr same ↦ inr same ]
   left (stopped le is r stop) b is-full = inl (left r b is-full)
 
-  pub unvisited : {k : Task} {m m' : List ℕ} {s s' : S} {vs : List Visit} {e : Ending} → Run t w step k m s vs m' s' e → length m ≡ length w → Within k m → (b : ℕ) → e ≡ Full b → All (λ (v : Visit). v.address ≡ b → ⊥) vs
+  pub unvisited : {k : Task} {m m' : List ℕ} {s s' : S} {vs : List Visit} {e : Ending} → Run t w step k m s vs m' s' e → length m ≡ length w → Within k m → (b : ℕ) → e ≡ Full b → AllByRecursion (λ (v : Visit). v.address ≡ b → ⊥) vs
   unvisited (marked one) len at b is-full = tt
   unvisited (opened {c = c} {a = a} {m = m} none r) len at b is-full =
       let i = at.1 in

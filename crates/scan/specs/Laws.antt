@@ -1,6 +1,6 @@
 -- What holds of every scan.
 use Rattle.std.specs.Prelude.{◌≡◌, ℕ, ◌+◌, ◌≤◌, ◌⊎◌, List, [], ◌∷◌, ◌++◌, length, Some, None, Option, ◌≢◌, slice_index}
-use Rattle.std.specs.List.{AllByRecursion as All}
+use Rattle.std.specs.List.{AllByRecursion}
 use Rattle.layouts.specs.Types.{Types}
 use Rattle.cells.specs.declared.content.Content.{Content}
 use Rattle.cells.specs.Words.{place}
@@ -52,7 +52,7 @@ pub record ScanLaws (t : Types) (w : List ℕ) {S : Type 0} (step : S → Visit 
   pub only : (j : ℕ) → IsMarked m' j → IsMarked m j ⊎ ((c₁ : ℕ) × (a₁ : ℕ) × Reach t w (lone c a) c₁ a₁ × InCell t c₁ a₁ j)
   -- each cell is visited at most once, and only what is reached and was not marked
   pub once : Once vs
-  pub due : All (Due t w c a m m') vs
+  pub due : AllByRecursion (Due t w c a m m') vs
   -- each visit is of a cell with a byte that is marked anew
   pub room : length vs + unmarked m' ≤ unmarked m
   -- the pointer's own cell is visited last
@@ -64,7 +64,7 @@ pub record ScanLaws (t : Types) (w : List ℕ) {S : Type 0} (step : S → Visit 
   pub whole : InOrder t w (lone c a) → (p : ℕ) → e ≢ Broken p
   -- a full inspector refuses the visit of a reached cell, which was not visited before
   pub full : (b : ℕ) → e ≡ Full b → (c₁ : ℕ) × Reach t w (lone c a) c₁ b × (step s' (cell_visit t w c₁ b) ≡ None)
-  pub unvisited : (b : ℕ) → e ≡ Full b → All (λ (v : Visit). v.address ≢ b) vs
+  pub unvisited : (b : ℕ) → e ≡ Full b → AllByRecursion (λ (v : Visit). v.address ≢ b) vs
   -- where all is in order and the inspector is never full, the scan is done
   pub done : InOrder t w (lone c a) → ((x : S) (v : Visit) → step x v ≢ None) → e ≡ Done
   -- one pointer after the other: reached cells that do not overlap

@@ -1,6 +1,6 @@
 -- Visits of cells, and what an inspector holds after them.
 use Rattle.std.specs.Prelude.{◌≡◌, ℕ, Bool, true, false, ◌⊎◌, List, [], ◌∷◌, Some, None, Option, ◌≢◌}
-use Rattle.std.specs.List.{AllByRecursion as All}
+use Rattle.std.specs.List.{AllByRecursion}
 
 -- a visit: the type-code, the address and the words of a cell
 pub record Visit : Type 0 where
@@ -33,4 +33,4 @@ Seen (v ∷ vs) c a = ((v.code ≡ c) × (v.address ≡ a)) ⊎ Seen vs c a
 -- no two visits are at the same address
 abbrev pub Once : List Visit → Type 0
 Once [] = Unit {0}
-Once (v ∷ vs) = All (λ (u : Visit). u.address ≢ v.address) vs × Once vs
+Once (v ∷ vs) = AllByRecursion (λ (u : Visit). u.address ≢ v.address) vs × Once vs

@@ -6,7 +6,7 @@ ghost use Rattle.std.specs.declared.io.ErrorKind.TheVariants.{Interrupted};
 ghost use Rattle.lines.specs.Buffer.{held};
 ghost use Rattle.script.specs.Obeying.{empty};
 ghost use Rattle.script.specs.Session.{state};
-ghost use Rattle.cues.specs.Reading.{Accepts, Ends, LineEnded, pending};
+ghost use Rattle.cues.specs.Reading.{Accepts, LineEnded, pending};
 
 use anyhow::anyhow;
 use lines::buffer::LineBuffer;
@@ -67,7 +67,7 @@ impl Desk {
 
     // A last line may lack its line feed.
     fn end(&mut self, rt: &HostRuntime) -> anyhow::Result<()>
-        ensures { OnOk result (Ends self.old self.new) }
+        ensures { OnOk result ((held self.old.line ≡ [] → self.new ≡ self.old) × ((held self.old.line ≢ []) → LineEnded self.old self.new)) }
     {
         if self.line.as_slice().is_empty() {
             Ok(())

@@ -4,7 +4,7 @@ use Rattle.std.specs.Borrow.{MutBor}
 use Rattle.refusals.specs.declared.refusal.Refusal.{Refusal}
 use Rattle.heap.specs.declared.memory.Memory.{Memory}
 use Rattle.heap.specs.declared.memory.Open.{Open}
-use Rattle.calls.specs.Rows.{row_1}
+pub use Rattle.calls.specs.Rows.{row_1}
 
 -- the words of a new heap: word 0 links the first free run, which is all the others
 abbrev pub new_words : ℕ → List ℕ

@@ -1,5 +1,5 @@
 -- What a visit does to a tally.
-use Rattle.std.specs.Prelude.{ℕ, suc, ◌+◌, ◌^◌, Bool, cond, ◌&&◌, ◌||◌, List, [], ◌∷◌, length, get_or, replicate, Some, None, Option, ◌==◌, nat_lt, slice_index_or, slice_set}
+use Rattle.std.specs.Prelude.{ℕ, suc, ◌+◌, ◌^◌, Bool, cond, ◌&&◌, ◌||◌, List, [], ◌∷◌, length, replicate, Some, None, Option, ◌==◌, nat_lt, slice_index_or, slice_set}
 use Rattle.scan.specs.Visits.{Visit}
 use Rattle.inspectors.specs.declared.tally.Row.{Row}
 use Rattle.inspectors.specs.declared.tally.Tally.{Tally}
@@ -23,7 +23,7 @@ counted code n r = record { code = code; cells = r.cells + 1; words = r.words + 
 
 -- there is such a row, and both counts stay below 2^32
 abbrev pub takes : List Row → ℕ → ℕ → Bool
-takes rows i n = nat_lt i (length rows) && (nat_lt ((get_or rows i blank).cells + 1) (2 ^ 32) && nat_lt ((get_or rows i blank).words + n) (2 ^ 32))
+takes rows i n = nat_lt i (length rows) && (nat_lt ((slice_index_or rows i blank).cells + 1) (2 ^ 32) && nat_lt ((slice_index_or rows i blank).words + n) (2 ^ 32))
 
 -- the visit of a code that shows n words, counted in row i
 abbrev pub tally_at : Tally → ℕ → ℕ → ℕ → Option Tally

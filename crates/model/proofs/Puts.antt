@@ -102,9 +102,9 @@ module _ (t : Types) (b : Model) (w : List ℕ) (rs : List HoldRecord) (g k j : 
       (λ i other lti. pointer_others t w c a j (code_word s) (value_word s) i law is other)
 
   typed_said : (d : ℕ) (y : Value) → takes (has_value b.cells y) (Typed d) ≡ true → ((l : ℕ) → y ≡ cell l → fits t (length w) (code_of b.cells l) (address_of b.cells l) ≡ true) → typed_says t (length w) d (value_word (shown b.cells y)) ≡ Some (shown b.cells y)
-  typed_said d nothing ok in_heap_lem = refl
-  typed_said d (cell l) ok in_heap_lem = rw (← (eqb-true (code_of b.cells l) d ok)) (typed_says_cell t (length w) (code_of b.cells l) (address_of b.cells l) (in_heap_lem l refl))
-  typed_said d (immediate c n) ok in_heap_lem = let z : ◌≡◌ {A = ℕ} 0 1 = cc in absurd (omega arith)
+  typed_said d nothing ok in_heap = refl
+  typed_said d (cell l) ok in_heap = rw (← (eqb-true (code_of b.cells l) d ok)) (typed_says_cell t (length w) (code_of b.cells l) (address_of b.cells l) (in_heap l refl))
+  typed_said d (immediate c n) ok in_heap = let z : ◌≡◌ {A = ℕ} 0 1 = cc in absurd (omega arith)
 
   put_typed : (d : ℕ) → class_of t (code_of b.cells k) (suc j) ≡ Typed d → takes (has_value b.cells x) (Typed d) ≡ true → Stands t (with_word b k j (value x)) (with_content w (address_of b.cells k + j) (Typed d) (shown b.cells x)) rs
   put_typed d is ok =

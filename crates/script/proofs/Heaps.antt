@@ -4,8 +4,7 @@ use Rattle.sources.specs.declared.over.Over.{Over}
 use Rattle.sources.specs.declared.table.Table.{Table}
 use Rattle.calls.specs.declared.record.HoldRecord.{HoldRecord}
 use Rattle.calls.specs.Holds.{unheld}
-use Rattle.calls.specs.Rows.{row_1}
-use Rattle.heap.specs.Memory.{new_words}
+use Rattle.heap.specs.Memory.{row_1, new_words}
 use Rattle.lines.specs.Requests.{heap}
 use Rattle.script.specs.declared.reply.Reply.TheVariants.{Done}
 use Rattle.script.specs.declared.store.Heap.{Heap}

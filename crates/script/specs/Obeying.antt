@@ -9,8 +9,7 @@ use Rattle.calls.specs.declared.record.HoldRecord.{HoldRecord}
 use Rattle.calls.specs.Holds.{unheld}
 use Rattle.calls.specs.Calls as calls
 use Rattle.calls.specs.Calls.{Takes, Releases, Notes, Copies, Tells, Looks, Sets, Puts, Fetches}
-use Rattle.calls.specs.Rows.{row_1}
-use Rattle.heap.specs.Memory.{new_words}
+use Rattle.heap.specs.Memory.{row_1, new_words}
 use Rattle.lines.specs.Requests.{Request, types, heap, take, release, note, copy, tell, look, set, put, fetch}
 use Rattle.script.specs.declared.reply.Reply.{Reply}
 use Rattle.script.specs.declared.reply.Reply.TheVariants.{Number, Has, Refused}

@@ -1,5 +1,5 @@
 -- What a session prints for a line, and what it becomes.
-use Rattle.std.specs.Prelude.{◌≡◌, ℕ, ◌⊎◌, List, Some, None, vec_items, Option}
+use Rattle.std.specs.Prelude.{◌≡◌, ℕ, ◌⊎◌, List, Some, None, Option}
 use Rattle.refusals.specs.declared.refusal.Refusal.TheVariants.{NotALine}
 use Rattle.sources.specs.declared.over.Over.{Over}
 use Rattle.sources.specs.declared.table.Table.{Table}
@@ -14,10 +14,10 @@ use Rattle.script.specs.Obeying.{State, empty, typed, ready, InOrder, Obeys}
 use Rattle.script.specs.Replies.{printed}
 
 abbrev pub table_words : Over Table → List ℕ
-table_words o = vec_items o.below.words
+table_words o = o.below.words.items
 
 abbrev pub opened : Over Table → Heap → State
-opened o h = ready (table_words o) (vec_items h.words) h.holds.records
+opened o h = ready (table_words o) h.words.items h.holds.records
 
 abbrev pub with_heap : Over Table → Option Heap → State
 with_heap o None = typed (table_words o)

@@ -16,28 +16,28 @@ pub(crate) enum Reply {
     Refused(Refusal),
 }
 
-pub(crate) fn of_call(res: Result<(), Refusal>) -> Reply
-    ensures { result ≡ done res }
+pub(crate) fn of_call(outcome: Result<(), Refusal>) -> Reply
+    ensures { result ≡ done outcome }
 {
-    match res {
+    match outcome {
         Ok(()) => Reply::Done,
         Err(refusal) => Reply::Refused(refusal),
     }
 }
 
-pub(crate) fn of_number(res: Result<u32, Refusal>) -> Reply
-    ensures { result ≡ replied Number res }
+pub(crate) fn of_number(outcome: Result<u32, Refusal>) -> Reply
+    ensures { result ≡ replied Number outcome }
 {
-    match res {
+    match outcome {
         Ok(number) => Reply::Number(number),
         Err(refusal) => Reply::Refused(refusal),
     }
 }
 
-pub(crate) fn of_content(res: Result<Content, Refusal>) -> Reply
-    ensures { result ≡ replied Has res }
+pub(crate) fn of_content(outcome: Result<Content, Refusal>) -> Reply
+    ensures { result ≡ replied Has outcome }
 {
-    match res {
+    match outcome {
         Ok(content) => Reply::Has(content),
         Err(refusal) => Reply::Refused(refusal),
     }

@@ -3,13 +3,13 @@ use Rattle.std.specs.Prelude.{◌≡◌, ℕ, List, length, replicate, Some, Non
 use Rattle.refusals.specs.declared.refusal.Refusal.{Refusal}
 use Rattle.layouts.specs.Types.{Types}
 use Rattle.calls.specs.declared.record.HoldRecord.{HoldRecord}
-use Rattle.calls.specs.Rows.{memory_due}
+pub use Rattle.calls.specs.Rows.{memory_due}
 use Rattle.calls.specs.Calls.{code_at, address_at, cell_due}
 use Rattle.scan.specs.Visits.{Visit}
 use Rattle.scan.specs.Scan.{Run, pointer}
 use Rattle.scan.specs.Laws.{ScanLaws}
 use Rattle.scan.specs.declared.scanned.Ending.{Ending}
-use Rattle.marking.specs.Marking.{told}
+pub use Rattle.marking.specs.Marking.{told}
 
 -- the scan of the hold's cell from zero marks
 pub record Scanned (t : Types) (w : List ℕ) {S : Type 0} (step : S → Visit → Option S) (c a : ℕ) (s s' : S) (r : Result ℕ Refusal) : Type 0 where

@@ -9,7 +9,7 @@ pub enum Layer {
 }
 
 // A refusal with its place. docs/RULES.md has the condition and an example of each.
-#[derive(Clone, Copy, Debug)]
+#[derive(Clone, Copy, PartialEq, Eq, Debug)]
 pub enum Refusal {
     MemorySize,
     HoldNumber { hold: u32 },

@@ -34,12 +34,26 @@ impl Refusal {
     pub fn layer(&self) -> Layer
         ensures { result ≡ layer_of self.now }
     {
-        match self.number() {
-            2 | 3 => Layer::Hold,
-            12 => Layer::Inspector,
-            21..=27 => Layer::Source,
-            30 => Layer::Script,
-            _ => Layer::Heap,
+        match self {
+            Refusal::HoldNumber { .. } | Refusal::HoldState { .. } => Layer::Hold,
+            Refusal::MemorySize
+            | Refusal::NoType { .. }
+            | Refusal::TypeSize { .. }
+            | Refusal::NoCell { .. }
+            | Refusal::UnfitCell { .. }
+            | Refusal::NoWord { .. }
+            | Refusal::WordClass { .. }
+            | Refusal::Broken { .. }
+            | Refusal::NoRun { .. } => Layer::Heap,
+            Refusal::InspectorFull { .. } => Layer::Inspector,
+            Refusal::TableStart
+            | Refusal::TemplateSize { .. }
+            | Refusal::TemplateEnd { .. }
+            | Refusal::EntryNumber { .. }
+            | Refusal::EntryPair { .. }
+            | Refusal::EntryName { .. }
+            | Refusal::MaskFull => Layer::Source,
+            Refusal::NotALine { .. } => Layer::Script,
         }
     }
 

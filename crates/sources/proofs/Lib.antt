@@ -1,5 +1,6 @@
 mod Among
 mod Counting
 mod Dues
-mod FlagLaws
+mod SlotLaws
+mod EntryLaws
 mod Answered

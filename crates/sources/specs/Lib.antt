@@ -1,2 +1,4 @@
 pub mod Flags
+pub mod Slots
+pub mod Words
 pub mod Errors

@@ -8,6 +8,7 @@ pub mod mask;
 pub mod over;
 pub mod rule;
 pub mod source;
+mod spot;
 pub mod starts;
 pub mod table;
 pub mod uses;

@@ -1,10 +1,11 @@
-ghost use Rattle.std.specs.Prelude.{◌≡◌, ℕ, ◌<◌, ◌≤◌, List, [], ◌∷◌, ◌++◌, length, take, MatchResult};
+ghost use Rattle.std.specs.Prelude.{◌≡◌, ◌<◌, [], ◌∷◌, ◌++◌, length, MatchResult};
 ghost use Rattle.refusals.specs.declared.refusal.Refusal.TheVariants.{MaskFull};
-ghost use Rattle.layouts.specs.Mask.{among, masked};
+ghost use Rattle.layouts.specs.Mask.{masked};
 ghost use Rattle.layouts.proofs.MaskLaws.{masked_lawful};
 
 use crate::source::TemplateSource;
 use crate::words::MASK_PLACES;
+use arrayvec::ArrayVec;
 use layouts::entry::Entry;
 use layouts::place::Place;
 use refusals::refusal::Refusal;
@@ -13,34 +14,20 @@ use refusals::refusal::Refusal;
 #[derive(Drop)]
 pub struct Mask<S> {
     source: S,
-    places: [Place; 32],
-    count: usize,
-    ghost few: { count ≤ 32 },
-}
-
-// Whether the word of the type is among the places.
-fn is_among(places: &[Place], code: u32, word: u32) -> bool
-    ensures { result ≡ among places.now code word }
-{
-    for p in places {
-        if p.code == code && p.word == word {
-            return true;
-        }
-    }
-    false
+    places: ArrayVec<Place, MASK_PLACES>,
 }
 
 impl<S: TemplateSource> TemplateSource for Mask<S> {
-    ghost meaning = { λ m. masked (take m.count m.places) (S.TemplateSource.meaning m.source) };
+    ghost meaning = { λ m. masked m.places.items (S.TemplateSource.meaning m.source) };
 
-    ghost laws = { λ m. masked_lawful (take m.count m.places) (S.TemplateSource.meaning m.source) (S.TemplateSource.laws m.source) };
+    ghost laws = { λ m. masked_lawful m.places.items (S.TemplateSource.meaning m.source) (S.TemplateSource.laws m.source) };
 
     fn size(&self, code: u32) -> Option<u32> {
         self.source.size(code)
     }
 
     fn entry(&self, code: u32, word: u32) -> Entry {
-        if is_among(&self.places[0..self.count], code, word) {
+        if self.places.as_slice().contains(&Place { code, word }) {
             Entry::Z
         } else {
             self.source.entry(code, word)
@@ -51,24 +38,18 @@ impl<S: TemplateSource> TemplateSource for Mask<S> {
 impl<S: TemplateSource> Mask<S> {
     // The source with no word masked.
     pub fn new(source: S) -> Mask<S>
-        ensures { (result.source ≡ source) × (result.count ≡ 0) }
+        ensures { (result.source ≡ source) × (result.places.items ≡ []) }
     {
         Mask {
             source,
-            places: [Place { code: 0, word: 0 }; 32],
-            count: 0,
+            places: ArrayVec::new(),
         }
     }
 
     // One place more, refused where there are 32.
     pub fn cover(&mut self, place: Place) -> Result<(), Refusal>
-        ensures { MatchResult result (λ _. (self.old.count < 32) × (self.new.source ≡ self.old.source) × (take self.new.count self.new.places ≡ take self.old.count self.old.places ++ place ∷ [])) (λ f. (f ≡ MaskFull) × (self.old.count ≡ 32) × (self.new ≡ self.old)) }
+        ensures { MatchResult result (λ _. (length self.old.places.items < 32) × (self.new.source ≡ self.old.source) × (self.new.places.items ≡ self.old.places.items ++ place ∷ [])) (λ f. (f ≡ MaskFull) × (length self.old.places.items ≡ 32) × (self.new ≡ self.old)) }
     {
-        if self.count >= MASK_PLACES {
-            return Err(Refusal::MaskFull);
-        }
-        self.places[self.count] = place;
-        self.count += 1;
-        Ok(())
+        self.places.try_push(place).map_err(|_| Refusal::MaskFull)
     }
 }

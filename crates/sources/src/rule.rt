@@ -1,5 +1,5 @@
-ghost use Rattle.std.specs.Prelude.{◌≡◌};
-ghost use Rattle.layouts.specs.Rule.{rule};
+ghost use Rattle.std.specs.Prelude.{◌≡◌, ◌-◌, Some, None, cond};
+ghost use Rattle.layouts.specs.Rule.{in_rule, rule};
 ghost use Rattle.layouts.proofs.RuleLaws.{rule_lawful};
 
 use crate::source::TemplateSource;
@@ -10,28 +10,33 @@ use layouts::entry::Entry;
 #[derive(Clone, Copy)]
 pub struct Rule;
 
+// Where a code stands among those of the rule, counted from 0.
+fn place_in_rule(code: u32) -> Option<u32>
+    ensures { result ≡ cond (in_rule code) (Some (code - 32768)) None }
+{
+    if (RULE_FIRST..=LAST_CODE).contains(&code) {
+        Some(code - RULE_FIRST)
+    } else {
+        None
+    }
+}
+
 impl TemplateSource for Rule {
     ghost meaning = { λ _. rule };
 
     ghost laws = { λ _. rule_lawful };
 
     fn size(&self, code: u32) -> Option<u32> {
-        if code < RULE_FIRST || code > LAST_CODE {
-            return None;
-        }
-        Some(1 + (code - RULE_FIRST) % MOST_WORDS)
+        let d = place_in_rule(code)?;
+        Some(1 + d % MOST_WORDS)
     }
 
     fn entry(&self, code: u32, word: u32) -> Entry {
-        if code < RULE_FIRST || code > LAST_CODE {
-            return Entry::Z;
-        }
-        let d = code - RULE_FIRST;
-        let paired = d / MOST_WORDS % 2 == 1;
-        if paired && word % 2 == 1 && word < 1 + d % MOST_WORDS {
-            Entry::P
-        } else {
-            Entry::Z
+        match place_in_rule(code) {
+            Some(d) if d / MOST_WORDS % 2 == 1 && word % 2 == 1 && word < 1 + d % MOST_WORDS => {
+                Entry::P
+            }
+            _ => Entry::Z,
         }
     }
 }

@@ -1,5 +1,8 @@
-ghost use Rattle.std.specs.Prelude.{◌≡◌, ℕ, ◌-◌, ◌≤◌, Bool, false, length, if◌then◌else◌, nat_eq};
+ghost use Rattle.std.specs.Prelude.{◌≡◌, ℕ, ◌-◌, ◌<◌, ◌≤◌, ◌&&◌, length, if◌then◌else◌, nat_eq, nat_le, slice_index};
+ghost use Rattle.layouts.specs.Table.{begins};
 ghost use Rattle.sources.specs.Flags.{Flags};
+
+use crate::words::TABLE_WORDS;
 
 // How many entries are due after a word, where `left` were due at it.
 pub(crate) fn next_due(left: u32, word: u32) -> u32
@@ -8,14 +11,34 @@ pub(crate) fn next_due(left: u32, word: u32) -> u32
     if left == 0 { word } else { left - 1 }
 }
 
-// Says of each word whether a template begins there.
-pub(crate) fn flag_starts(words: &[u32], starts: &mut [bool])
-    requires { length words.now ≤ length starts.old }
-    ensures { Flags words.now starts.new }
-{
-    let mut left = 0;
-    for k in 0..words.len() {
-        starts[k] = k >= 1 && left == 0;
-        left = next_due(left, words[k]);
+// Words that are few enough for a table, with a flag for each that says whether a template begins there.
+#[derive(Drop)]
+pub(crate) struct Flagged<'a> {
+    pub(crate) words: &'a [u32],
+    pub(crate) starts: [bool; TABLE_WORDS],
+    ghost short: { length words.now ≤ 32768 },
+    ghost flagged: { Flags words.now starts },
+}
+
+impl<'a> Flagged<'a> {
+    pub(crate) fn new(words: &'a [u32]) -> Flagged<'a>
+        requires { length words.now ≤ 32768 }
+        ensures { result.words.now ≡ words.now }
+    {
+        let mut starts = [false; TABLE_WORDS];
+        let mut left = 0;
+        for (k, word) in words.iter().enumerate() {
+            starts[k] = k >= 1 && left == 0;
+            left = next_due(left, *word);
+        }
+        Flagged { words, starts }
+    }
+
+    // Whether a template with entries begins at an index.
+    pub(crate) fn has_entries(&self, index: u32) -> bool
+        ensures { result ≡ (begins self.now.words.now index && nat_le 1 (slice_index self.now.words.now index)) }
+    {
+        let at = index as usize;
+        at < self.words.len() && self.starts[at] && self.words[at] >= 1
     }
 }

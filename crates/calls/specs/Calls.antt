@@ -42,6 +42,13 @@ broken_at p (Some k) = None
 abbrev pub row_10 : Types → List ℕ → List HoldRecord → ℕ → ℕ → Option Refusal
 row_10 t w rs h i = broken_at (place_at rs h i) (says_at t w rs h i)
 
+-- 6 and 7 of a hold that has the content k: what stands between a hold and its cell
+abbrev pub cell_in_due : Types → ℕ → Content → ℕ → Option Refusal
+cell_in_due t L k h = first_due
+    (unless (is_cell (has k)) (NoCell h)
+    ∷ unless (fits t L (code_of (has k)) (value_word k)) (UnfitCell h)
+    ∷ [])
+
 -- 6, 7 and 8 of a hold that has the content k: what stands between a hold and a word of its cell
 abbrev pub word_due : Types → ℕ → Content → ℕ → ℕ → Option Refusal
 word_due t L k h i = first_due

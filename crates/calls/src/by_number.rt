@@ -5,14 +5,10 @@ ghost use Rattle.calls.specs.Calls.{Answers, Takes, Releases, Notes, Copies, Tel
 ghost use Rattle.calls.specs.Holds.{at, holding};
 ghost use Rattle.calls.specs.Known.{Known};
 
-use crate::find::{accepts, find_word, is_reference};
-use crate::holds::{
-    Holds, check_number, check_numbers, content_of, fill_record, release_record, take_record,
-};
-use crate::spot::Spot;
+use crate::find::{View, accepts, is_reference};
+use crate::holds::{Holds, check_number};
 use cells::content::Content;
-use cells::words::{does_fit, read_content, write_content};
-use layouts::entry::Class;
+use cells::words::{read_content, write_content};
 use refusals::refusal::Refusal;
 use sources::source::TemplateSource;
 
@@ -21,7 +17,7 @@ pub fn take(holds: &mut Holds, hold: u32) -> Result<(), Refusal>
     ensures { Takes holds.old.records hold holds.new.records result }
 {
     check_number(hold)?;
-    take_record(&mut holds.records[hold as usize], hold)
+    holds.records[hold as usize].set_held(true, hold)
 }
 
 // The hold is held no more.
@@ -29,15 +25,14 @@ pub fn release(holds: &mut Holds, hold: u32) -> Result<(), Refusal>
     ensures { Releases holds.old.records hold holds.new.records result }
 {
     check_number(hold)?;
-    release_record(&mut holds.records[hold as usize], hold)
+    holds.records[hold as usize].set_held(false, hold)
 }
 
 // What the hold has.
 pub fn tell(holds: &Holds, hold: u32) -> Result<Content, Refusal>
     ensures { Tells holds.now.records hold result }
 {
-    check_number(hold)?;
-    content_of(holds, hold)
+    holds.content(hold)
 }
 
 // The hold gets an immediate of a type that has no cells.
@@ -50,15 +45,11 @@ pub fn note<S: TemplateSource>(
 ) -> Result<(), Refusal>
     ensures { Notes (S.TemplateSource.meaning source.now) holds.old.records hold code number holds.new.records result }
 {
-    check_number(hold)?;
-    content_of(holds, hold)?;
+    holds.content(hold)?;
     match source.size(code) {
         None => Err(Refusal::NoType { code }),
         Some(0) => {
-            fill_record(
-                &mut holds.records[hold as usize],
-                Content::Immediate { code, number },
-            );
+            holds.fill(hold, Content::Immediate { code, number });
             Ok(())
         }
         Some(_) => Err(Refusal::TypeSize { code }),
@@ -69,10 +60,8 @@ pub fn note<S: TemplateSource>(
 pub fn copy(holds: &mut Holds, from: u32, to: u32) -> Result<(), Refusal>
     ensures { Copies holds.old.records «from» to holds.new.records result }
 {
-    check_numbers(from, to)?;
-    let content = content_of(holds, from)?;
-    content_of(holds, to)?;
-    fill_record(&mut holds.records[to as usize], content);
+    let (content, _) = holds.contents(from, to)?;
+    holds.fill(to, content);
     Ok(())
 }
 
@@ -85,34 +74,7 @@ pub fn cell_of<S: TemplateSource>(
 ) -> Result<(u32, u32), Refusal>
     ensures { Answers (cell_due (S.TemplateSource.meaning source.now) length holds.now.records hold) (Unit {0}) (λ p. (at holds.now.records hold ≡ holding (Cell p.0 p.1)) × (fits (S.TemplateSource.meaning source.now) length p.0 p.1 ≡ true)) result }
 {
-    check_number(hold)?;
-    let content = content_of(holds, hold)?;
-    let Content::Cell { code, address } = content else {
-        return Err(Refusal::NoCell { hold });
-    };
-    if !does_fit(source, length, code, address) {
-        return Err(Refusal::UnfitCell { hold });
-    }
-    Ok((code, address))
-}
-
-// Where the plain word of the hold's cell stands.
-fn plain_word<S: TemplateSource>(
-    length: usize,
-    holds: &Holds,
-    source: &S,
-    hold: u32,
-    word: u32,
-) -> Result<usize, Refusal>
-    ensures { Answers (plain_due (S.TemplateSource.meaning source.now) length holds.now.records hold word) (Unit {0}) (λ p. (p ≡ place_at holds.now.records hold word) × (p < length)) result }
-{
-    check_number(hold)?;
-    let content = content_of(holds, hold)?;
-    let spot = find_word(source, length, content, hold, word)?;
-    match spot.class {
-        Class::Plain => Ok(spot.at),
-        _ => Err(Refusal::WordClass { word }),
-    }
+    View::new(length, holds, source).cell(hold)
 }
 
 // The number in a plain word of the hold's cell.
@@ -125,7 +87,7 @@ pub fn look<S: TemplateSource>(
 ) -> Result<u32, Refusal>
     ensures { Looks (S.TemplateSource.meaning source.now) words.now holds.now.records hold word result }
 {
-    let at = plain_word(words.len(), holds, source, hold, word)?;
+    let at = View::new(words.len(), holds, source).plain_word(hold, word)?;
     Ok(words[at])
 }
 
@@ -140,27 +102,9 @@ pub fn set<S: TemplateSource>(
 ) -> Result<(), Refusal>
     ensures { Sets (S.TemplateSource.meaning source.now) words.old holds.now.records hold word number words.new result }
 {
-    let at = plain_word(words.len(), holds, source, hold, word)?;
+    let at = View::new(words.len(), holds, source).plain_word(hold, word)?;
     words[at] = number;
     Ok(())
-}
-
-// The word of the first hold's cell, and what the second hold has.
-fn word_and_content<S: TemplateSource>(
-    length: usize,
-    holds: &Holds,
-    source: &S,
-    hold: u32,
-    word: u32,
-    other: u32,
-) -> Result<(Spot, Content), Refusal>
-    ensures { Answers (pair_due (S.TemplateSource.meaning source.now) length holds.now.records hold word other) (Unit {0}) (λ p. Known (S.TemplateSource.meaning source.now) holds.now.records hold word p.0 × (other ≤ 63) × (at holds.now.records other ≡ holding p.1)) result }
-{
-    check_numbers(hold, other)?;
-    let cell = content_of(holds, hold)?;
-    let content = content_of(holds, other)?;
-    let spot = find_word(source, length, cell, hold, word)?;
-    Ok((spot, content))
 }
 
 // A pointer or typed word of the first hold's cell gets what the second hold has.
@@ -174,7 +118,7 @@ pub fn put<S: TemplateSource>(
 ) -> Result<(), Refusal>
     ensures { Puts (S.TemplateSource.meaning source.now) words.old holds.now.records hold word «from» words.new result }
 {
-    let (spot, content) = word_and_content(words.len(), holds, source, hold, word, from)?;
+    let (spot, content) = View::new(words.len(), holds, source).word_and_content(hold, word, from)?;
     if !accepts(spot.class, content) {
         return Err(Refusal::WordClass { word });
     }
@@ -193,13 +137,12 @@ pub fn fetch<S: TemplateSource>(
 ) -> Result<(), Refusal>
     ensures { Fetches (S.TemplateSource.meaning source.now) words.now holds.old.records hold word to holds.new.records result }
 {
-    let (spot, _) = word_and_content(words.len(), holds, source, hold, word, to)?;
+    let (spot, _) = View::new(words.len(), holds, source).word_and_content(hold, word, to)?;
     if !is_reference(spot.class) {
         return Err(Refusal::WordClass { word });
     }
-    let Some(content) = read_content(words, source, spot.at, spot.class) else {
-        return Err(Refusal::Broken { address: spot.at });
-    };
-    fill_record(&mut holds.records[to as usize], content);
+    let said = read_content(words, source, spot.at, spot.class);
+    let content = said.ok_or(Refusal::Broken { address: spot.at })?;
+    holds.fill(to, content);
     Ok(())
 }

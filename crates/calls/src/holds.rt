@@ -1,9 +1,7 @@
-ghost use Rattle.std.specs.Prelude.{◌≡◌, ℕ, ◌≤◌, true, false, [], ◌∷◌, replicate, MatchResult};
-ghost use Rattle.refusals.specs.declared.refusal.Refusal.TheVariants.{HoldNumber, HoldState};
-ghost use Rattle.cells.specs.declared.content.Content.TheVariants.{Nothing};
-ghost use Rattle.calls.specs.Holds.{unheld, holding, at, reads, is_held};
-ghost use Rattle.calls.specs.Rows.{row_2, unless};
-ghost use Rattle.calls.specs.Calls.{Answers};
+ghost use Rattle.std.specs.Prelude.{◌≡◌, ℕ, ◌≤◌, [], ◌∷◌, replicate, slice_set};
+ghost use Rattle.calls.specs.Holds.{unheld, holding, at};
+ghost use Rattle.calls.specs.Rows.{row_2};
+ghost use Rattle.calls.specs.Calls.{Answers, held_due, copy_due};
 
 use crate::record::HoldRecord;
 use cells::content::Content;
@@ -31,10 +29,7 @@ impl Holds {
         ensures { result.records ≡ replicate 64 unheld }
     {
         Holds {
-            records: [HoldRecord {
-                held: false,
-                content: Content::Nothing,
-            }; 64],
+            records: [HoldRecord::default(); 64],
         }
     }
 
@@ -44,8 +39,37 @@ impl Holds {
     {
         &self.records
     }
+
+    // What the hold has.
+    pub(crate) fn content(&self, hold: u32) -> Result<Content, Refusal>
+        ensures { Answers (held_due self.now.records hold) (Unit {0}) (λ k. at self.now.records hold ≡ holding k) result }
+    {
+        check_number(hold)?;
+        self.records[hold as usize]
+            .told()
+            .ok_or(Refusal::HoldState { hold })
+    }
+
+    // What each of two holds has; their numbers are checked first.
+    pub(crate) fn contents(&self, first: u32, second: u32) -> Result<(Content, Content), Refusal>
+        ensures { Answers (copy_due self.now.records first second) (Unit {0}) (λ p. (at self.now.records first ≡ holding p.0) × (at self.now.records second ≡ holding p.1)) result }
+    {
+        check_number(first)?;
+        check_number(second)?;
+        Ok((self.content(first)?, self.content(second)?))
+    }
+
+    // The hold is held, with the content; above the last hold there is none to get it.
+    pub(crate) fn fill(&mut self, hold: u32, content: Content)
+        ensures { self.new.records ≡ slice_set self.old.records hold (holding content) }
+    {
+        if hold <= LAST_HOLD {
+            self.records[hold as usize].fill(content);
+        }
+    }
 }
 
+// Refuses a number that no hold has.
 pub(crate) fn check_number(hold: u32) -> Result<(), Refusal>
     ensures { Answers (row_2 (hold ∷ [])) (Unit {0}) (λ _. hold ≤ 63) result }
 {
@@ -53,61 +77,4 @@ pub(crate) fn check_number(hold: u32) -> Result<(), Refusal>
         return Err(Refusal::HoldNumber { hold });
     }
     Ok(())
-}
-
-pub(crate) fn check_numbers(first: u32, second: u32) -> Result<(), Refusal>
-    ensures { Answers (row_2 (first ∷ second ∷ [])) (Unit {0}) (λ _. (first ≤ 63) × (second ≤ 63)) result }
-{
-    check_number(first)?;
-    check_number(second)
-}
-
-// What a hold that should be held has.
-pub(crate) fn content_of(holds: &Holds, hold: u32) -> Result<Content, Refusal>
-    requires { hold ≤ 63 }
-    ensures { Answers (unless (is_held (reads holds.now.records hold)) (HoldState hold)) (Unit {0}) (λ k. at holds.now.records hold ≡ holding k) result }
-{
-    let entry = holds.records[hold as usize];
-    if !entry.held {
-        return Err(Refusal::HoldState { hold });
-    }
-    Ok(entry.content)
-}
-
-// One record, lent to be held.
-pub(crate) fn take_record(entry: &mut HoldRecord, hold: u32) -> Result<(), Refusal>
-    ensures { MatchResult result (λ _. (entry.old.held ≡ false) × (entry.new ≡ holding Nothing)) (λ f. (entry.old.held ≡ true) × (f ≡ HoldState hold) × (entry.new ≡ entry.old)) }
-{
-    if entry.held {
-        return Err(Refusal::HoldState { hold });
-    }
-    *entry = HoldRecord {
-        held: true,
-        content: Content::Nothing,
-    };
-    Ok(())
-}
-
-// One record, lent to be given up.
-pub(crate) fn release_record(entry: &mut HoldRecord, hold: u32) -> Result<(), Refusal>
-    ensures { MatchResult result (λ _. (entry.old.held ≡ true) × (entry.new ≡ unheld)) (λ f. (entry.old.held ≡ false) × (f ≡ HoldState hold) × (entry.new ≡ entry.old)) }
-{
-    if !entry.held {
-        return Err(Refusal::HoldState { hold });
-    }
-    *entry = HoldRecord {
-        held: false,
-        content: Content::Nothing,
-    };
-    Ok(())
-}
-
-// One record, lent to be given a content.
-pub(crate) fn fill_record(entry: &mut HoldRecord, content: Content)
-    ensures { entry.new ≡ holding content }
-{
-    *entry = HoldRecord {
-        held: true,
-        content,
-    };
 }

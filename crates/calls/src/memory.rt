@@ -13,7 +13,7 @@ pub const MOST_WORDS: usize = 65536;
 pub fn check_memory(words: usize, marks: usize) -> Result<(), Refusal>
     ensures { result_err result ≡ row_1 words marks }
 {
-    if words < FEWEST_WORDS || words > MOST_WORDS || marks != words {
+    if !(FEWEST_WORDS..=MOST_WORDS).contains(&words) || marks != words {
         return Err(Refusal::MemorySize);
     }
     Ok(())

@@ -4,8 +4,7 @@ ghost use Rattle.cells.specs.Words.{words_in};
 ghost use Rattle.calls.specs.Holds.{holding};
 ghost use Rattle.calls.specs.Calls.{Answers, make_due};
 
-use crate::holds::{Holds, check_number, content_of, fill_record};
-use crate::record::HoldRecord;
+use crate::holds::Holds;
 use cells::content::Content;
 use refusals::refusal::Refusal;
 use sources::source::TemplateSource;
@@ -19,8 +18,7 @@ pub fn size_for<S: TemplateSource>(
 ) -> Result<u32, Refusal>
     ensures { Answers (make_due (S.TemplateSource.meaning source.now) holds.now.records hold code) (Unit {0}) (λ n. (n ≡ words_in ((S.TemplateSource.meaning source.now).size code)) × (1 ≤ n)) result }
 {
-    check_number(hold)?;
-    content_of(holds, hold)?;
+    holds.content(hold)?;
     match source.size(code) {
         None => Err(Refusal::NoType { code }),
         Some(0) => Err(Refusal::TypeSize { code }),
@@ -28,18 +26,9 @@ pub fn size_for<S: TemplateSource>(
     }
 }
 
-// The record at the hold's place gets a content, where there is such a place.
-fn fill_at(records: &mut [HoldRecord], hold: u32, content: Content)
-    ensures { records.new ≡ slice_set records.old hold (holding content) }
-{
-    if (hold as usize) < records.len() {
-        fill_record(&mut records[hold as usize], content);
-    }
-}
-
 // The hold gets the cell; above the last hold there is none to get it.
 pub fn give_cell(holds: &mut Holds, hold: u32, code: u32, address: u32)
     ensures { holds.new.records ≡ slice_set holds.old.records hold (holding (Cell code address)) }
 {
-    fill_at(&mut holds.records, hold, Content::Cell { code, address });
+    holds.fill(hold, Content::Cell { code, address });
 }

@@ -20,16 +20,17 @@ cell_free (Some n) = n == 0
 abbrev pub fits : Types → ℕ → ℕ → ℕ → Bool
 fits t L c a = nat_le 1 (words_in (t.size c)) && (nat_le 1 a && nat_le (a + words_in (t.size c)) L)
 
-abbrev pub fit_cell_lem : Types → ℕ → ℕ → ℕ → Option Content
-fit_cell_lem t L c a = cond (fits t L c a) (Some (Cell c a)) None
+-- the cell of code c at address a, where it fits
+abbrev pub fitting_cell : Types → ℕ → ℕ → ℕ → Option Content
+fitting_cell t L c a = cond (fits t L c a) (Some (Cell c a)) None
 
 -- a pointer: code 0 is nothing, a type without cells makes an immediate
 abbrev pub pointer_says : Types → ℕ → ℕ → ℕ → Option Content
-pointer_says t L c x = cond (c == 0) (Some Nothing) (cond (cell_free (t.size c)) (Some (Immediate c x)) (fit_cell_lem t L c x))
+pointer_says t L c x = cond (c == 0) (Some Nothing) (cond (cell_free (t.size c)) (Some (Immediate c x)) (fitting_cell t L c x))
 
 -- a typed word: address 0 is nothing
 abbrev pub typed_says : Types → ℕ → ℕ → ℕ → Option Content
-typed_says t L c a = cond (a == 0) (Some Nothing) (fit_cell_lem t L c a)
+typed_says t L c a = cond (a == 0) (Some Nothing) (fitting_cell t L c a)
 
 -- what the word at p says, by its class; none where its child does not fit, and where it holds no content
 abbrev pub says : Types → List ℕ → ℕ → Class → Option Content

@@ -1,5 +1,5 @@
 ghost use Rattle.std.specs.Prelude.{◌≡◌, ℕ, ◌+◌, slice_index, slice_set};
-ghost use Rattle.cells.specs.Words.{fits, words_in, fit_cell_lem, pointer_says, says, with_content};
+ghost use Rattle.cells.specs.Words.{fits, words_in, fitting_cell, pointer_says, says, with_content};
 
 use crate::content::Content;
 use layouts::entry::Class;
@@ -9,10 +9,7 @@ use sources::source::TemplateSource;
 pub fn words_of<S: TemplateSource>(source: &S, code: u32) -> u32
     ensures { result ≡ words_in ((S.TemplateSource.meaning source.now).size code) }
 {
-    match source.size(code) {
-        Some(n) => n,
-        None => 0,
-    }
+    source.size(code).unwrap_or(0)
 }
 
 // Whether a cell of the type at the address lies in a heap of so many words.
@@ -27,34 +24,16 @@ pub fn does_fit<S: TemplateSource>(source: &S, length: usize, code: u32, address
 fn read_word(words: &[u32], at: usize) -> u32
     ensures { result ≡ slice_index words.now at }
 {
-    if at < words.len() { words[at] } else { 0 }
+    words.get(at).copied().unwrap_or(0)
 }
 
 // Writes a word; past the end there is none.
 fn write_word(words: &mut [u32], at: usize, word: u32)
     ensures { words.new ≡ slice_set words.old at word }
 {
+    // By its index, since nothing is known of a slice after a write through its `get_mut`.
     if at < words.len() {
         words[at] = word;
-    }
-}
-
-// The word after that, or 0 past the end.
-fn read_next(words: &[u32], at: usize) -> u32
-    ensures { result ≡ slice_index words.now (at + 1) }
-{
-    if at < words.len() {
-        read_word(words, at + 1)
-    } else {
-        0
-    }
-}
-
-fn write_next(words: &mut [u32], at: usize, word: u32)
-    ensures { words.new ≡ slice_set words.old (at + 1) word }
-{
-    if at < words.len() {
-        write_word(words, at + 1, word);
     }
 }
 
@@ -64,13 +43,9 @@ fn fit_cell<S: TemplateSource>(
     code: u32,
     address: u32,
 ) -> Option<Content>
-    ensures { result ≡ fit_cell_lem (S.TemplateSource.meaning source.now) length code address }
+    ensures { result ≡ fitting_cell (S.TemplateSource.meaning source.now) length code address }
 {
-    if does_fit(source, length, code, address) {
-        Some(Content::Cell { code, address })
-    } else {
-        None
-    }
+    does_fit(source, length, code, address).then_some(Content::Cell { code, address })
 }
 
 fn read_pointer<S: TemplateSource>(
@@ -104,7 +79,10 @@ pub fn read_content<S: TemplateSource>(
 {
     let first = read_word(words, at);
     match class {
-        Class::Pointer => read_pointer(source, words.len(), first, read_next(words, at)),
+        Class::Pointer => {
+            let second = read_word(words, at.saturating_add(1));
+            read_pointer(source, words.len(), first, second)
+        }
         Class::Typed(_) if first == 0 => Some(Content::Nothing),
         Class::Typed(of) => fit_cell(source, words.len(), of, first),
         Class::Plain | Class::SecondHalf => None,
@@ -115,15 +93,11 @@ pub fn read_content<S: TemplateSource>(
 pub fn write_content(words: &mut [u32], at: usize, class: Class, content: Content)
     ensures { words.new ≡ with_content words.old at class content }
 {
-    let (code, value) = match content {
-        Content::Nothing => (0, 0),
-        Content::Cell { code, address } => (code, address),
-        Content::Immediate { code, number } => (code, number),
-    };
+    let (code, value) = content.halves();
     match class {
         Class::Pointer => {
             write_word(words, at, code);
-            write_next(words, at, value);
+            write_word(words, at.saturating_add(1), value);
         }
         Class::Typed(_) => write_word(words, at, value),
         Class::Plain | Class::SecondHalf => {}

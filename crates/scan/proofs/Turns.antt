@@ -11,7 +11,7 @@ use Rattle.scan.specs.Pending.{frame_of, frames, Resume, halted, Ready, Good, En
 use Rattle.scan.specs.declared.frame.Child.TheVariants.{Nothing, Cell, Misfit}
 use Rattle.scan.specs.declared.frame.Frame.{Frame}
 use Rattle.scan.specs.declared.inspector.Full.{Full as FullInspector}
-use Rattle.scan.specs.declared.scanned.Ending.TheVariants.{Broken, Full}
+use Rattle.scan.specs.declared.scanned.Stop.TheVariants.{Broken, Full}
 use Rattle.scan.proofs.Inside.{short, inside_child}
 use Rattle.scan.proofs.Steps.{pop, pass, pass_marked, push}
 
@@ -51,13 +51,13 @@ module _ (t : Types) (laws : Lawful t) (w : List ℕ) {S : Type 0} (step : S →
   turn_visited s' past took =
       (cell_visit t w (top ps d).code (top ps d).address, raise _ _ _ _ _ (pop t w step (top ps d).code (top ps d).address (top ps d).word (d - 1) m ps s s' refl lower (omega (arith, small, short t laws (top ps d).code)) past took))
 
-  pub turn_refused : (s' : S) → s' ≡ s → width t (top ps d).code < (top ps d).word → step s (cell_visit t w (top ps d).code (top ps d).address) ≡ None → Resume t w step (frames ps d) m s [] m s' (Full (top ps d).address)
+  pub turn_refused : (s' : S) → s' ≡ s → width t (top ps d).code < (top ps d).word → step s (cell_visit t w (top ps d).code (top ps d).address) ≡ None → Resume t w step (frames ps d) m s [] m s' (Err (Full (top ps d).address))
   turn_refused s' same past none =
-      subst (λ x. Resume t w step (frames ps d) m s [] m x (Full (top ps d).address)) (sym same) (subst (λ x. Resume t w step (frames ps x) m s [] m s (Full (top ps d).address)) (back d pos) (halted (refused past none) tt))
+      subst (λ x. Resume t w step (frames ps d) m s [] m x (Err (Full (top ps d).address))) (sym same) (subst (λ x. Resume t w step (frames ps x) m s [] m s (Err (Full (top ps d).address))) (back d pos) (halted (refused past none) tt))
 
   module _ (le : (top ps d).word ≤ width t (top ps d).code) where
-    pub turn_misfit : child_at t w (top ps d).code (top ps d).address (top ps d).word ≡ Misfit → Resume t w step (frames ps d) m s [] m s (Broken (place (top ps d).address (top ps d).word))
-    turn_misfit is = subst (λ x. Resume t w step (frames ps x) m s [] m s (Broken (place (top ps d).address (top ps d).word))) (back d pos) (halted (misfit le is) tt)
+    pub turn_misfit : child_at t w (top ps d).code (top ps d).address (top ps d).word ≡ Misfit → Resume t w step (frames ps d) m s [] m s (Err (Broken (place (top ps d).address (top ps d).word)))
+    turn_misfit is = subst (λ x. Resume t w step (frames ps x) m s [] m s (Err (Broken (place (top ps d).address (top ps d).word)))) (back d pos) (halted (misfit le is) tt)
 
     low : (top ps d).word ≤ 255
     low = omega (arith, le, short t laws (top ps d).code)

@@ -1,5 +1,5 @@
 -- What pending frames have still to do, and what each turn of the scan keeps true of them.
-use Rattle.std.specs.Prelude.{◌≡◌, ℕ, zero, suc, ◌+◌, ◌-◌, ◌*◌, ◌<◌, ◌≤◌, List, [], ◌∷◌, ◌++◌, length, Option, slice_index_or, slice_set}
+use Rattle.std.specs.Prelude.{◌≡◌, ℕ, zero, suc, ◌+◌, ◌-◌, ◌*◌, ◌<◌, ◌≤◌, List, [], ◌∷◌, ◌++◌, length, Err, Option, slice_index_or, slice_set}
 use Rattle.layouts.specs.Types.{Types}
 use Rattle.scan.specs.Visits.{Visit}
 use Rattle.scan.specs.Marks.{IsMarked, mark_words, unmarked}
@@ -8,8 +8,7 @@ use Rattle.scan.specs.Scan.{Run, rest, Stops}
 use Rattle.scan.specs.declared.frame.Frame.{Frame}
 use Rattle.scan.specs.declared.frame.Next.{Next}
 use Rattle.scan.specs.declared.frame.Next.TheVariants.{Onward, Visited, Stop}
-use Rattle.scan.specs.declared.scanned.Ending.{Ending}
-use Rattle.scan.specs.declared.scanned.Ending.TheVariants.{Done}
+use Rattle.scan.specs.Endings.{Ending, Done}
 
 abbrev pub frame_of : ℕ → ℕ → ℕ → Frame
 frame_of c a i = record { code = c; address = a; word = i }
@@ -71,4 +70,4 @@ OneVisit t w step m ps d s m' ps' d' s' = (v : Visit) × Advanced t w step m ps 
 abbrev pub Turned : (t : Types) (w : List ℕ) {S : Type 0} (step : S → Visit → Option S) → List ℕ → List Frame → ℕ → S → List ℕ → List Frame → S → Next → Type 0
 Turned t w step m ps d s m' ps' s' (Onward d') = Advanced t w step m ps d s [] m' ps' d' s'
 Turned t w step m ps d s m' ps' s' Visited = OneVisit t w step m ps d s m' ps' (d - 1) s'
-Turned t w step m ps d s m' ps' s' (Stop e) = Resume t w step (frames ps d) m s [] m' s' e
+Turned t w step m ps d s m' ps' s' (Stop stop) = Resume t w step (frames ps d) m s [] m' s' (Err stop)

@@ -1,4 +1,4 @@
-use crate::scanned::Ending;
+use crate::scanned::Stop;
 
 // A cell whose words are being gone through, and the next of them.
 #[derive(Clone, Copy)]
@@ -21,5 +21,5 @@ pub enum Child {
 pub(crate) enum Next {
     Onward(usize),
     Visited,
-    Stop(Ending),
+    Stop(Stop),
 }

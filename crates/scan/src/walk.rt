@@ -9,7 +9,7 @@ ghost use Rattle.scan.specs.Answers.{Traced, Answers};
 
 use crate::frame::{Child, Frame, Next};
 use crate::inspector::{Full, Inspector};
-use crate::scanned::{Ending, Scanned, Unscanned};
+use crate::scanned::{Scanned, Stop, Unscanned};
 use cells::content::Content;
 use cells::words::{does_fit, read_content, words_of};
 use layouts::entry::Class;
@@ -108,7 +108,7 @@ fn turn<S: TemplateSource, I: Inspector>(
     if frame.word > n {
         return match show(words, frame, n, inspector) {
             Ok(()) => Next::Visited,
-            Err(Full) => Next::Stop(Ending::Full {
+            Err(Full) => Next::Stop(Stop::Full {
                 address: frame.address,
             }),
         };
@@ -119,7 +119,7 @@ fn turn<S: TemplateSource, I: Inspector>(
         Child::Cell { code, address } => {
             Next::Onward(enter(marks, pending, depth, source, code, address))
         }
-        Child::Misfit => Next::Stop(Ending::Broken {
+        Child::Misfit => Next::Stop(Stop::Broken {
             address: place_of(frame),
         }),
     }
@@ -149,11 +149,16 @@ fn walk<S: TemplateSource, I: Inspector>(
                 depth -= 1;
                 visits += 1;
             }
-            Next::Stop(ending) => return Scanned { ending, visits },
+            Next::Stop(stop) => {
+                return Scanned {
+                    ending: Err(stop),
+                    visits,
+                };
+            }
         }
     }
     Scanned {
-        ending: Ending::Done,
+        ending: Ok(()),
         visits,
     }
 }

@@ -1,6 +1,6 @@
-use Rattle.std.proofs.Common.{◌+◌, ◌<◌, [], length, sym, subst, arith, length-set, rules}
+use Rattle.std.proofs.Common.{◌+◌, ◌<◌, [], length, sym, subst, arith, length-set, rules, Ok, Err}
 use Rattle.scan.specs.Pending.{frames, Resume}
-use Rattle.scan.specs.declared.scanned.Ending.TheVariants.{Broken}
+use Rattle.scan.specs.declared.scanned.Stop.TheVariants.{Broken}
 use Rattle.scan.proofs.Inside.{short, inside_child}
 use Rattle.scan.proofs.Turns.{top, top_ready, made, not_made, turn_visited, turn_refused, turn_misfit, turn_plain, turn_cell}
 use Rattle.scan.proofs.walk.turn.Goals as goal
@@ -53,7 +53,7 @@ pub returns-in-Misfit : goal.returns-in-Misfit
 returns-in-Misfit g c =
     let t = g.S.TemplateSource.meaning c.args.source.now in
     let laws = g.S.TemplateSource.laws c.args.source.now in
-    subst (λ p. Resume t c.args.words.now g.I.Inspector.step (frames c.args.pending.now c.args.depth) c.args.marks.now c.args.inspector.now [] c.args.marks.now c.args.inspector.now (Broken p)) (sym c.place_of.ensures)
+    subst (λ p. Resume t c.args.words.now g.I.Inspector.step (frames c.args.pending.now c.args.depth) c.args.marks.now c.args.inspector.now [] c.args.marks.now c.args.inspector.now (Err (Broken p))) (sym c.place_of.ensures)
     (turn_misfit t laws c.args.words.now g.I.Inspector.step c.args.marks.now c.args.pending.now c.args.depth c.args.inspector.now c.requires.deep c.requires.good (omega arith) (sym c.in-Misfit.ensures))
 
 pub returns-in-Cell : goal.returns-in-Cell

@@ -1,8 +1,7 @@
 -- The laws of a scan, and a scan that was made.
-use Rattle.std.proofs.Common.{◌≡◌, ℕ, ◌<◌, ◌≤◌, true, List, [], ◌++◌, length, None, Ok, Err, Option, sym, refl, subst, inl, inr}
+use Rattle.std.proofs.Common.{◌≡◌, ℕ, ◌<◌, ◌≤◌, true, List, length, None, Ok, Err, Option, sym, refl, subst, inl, inr}
 use Rattle.std.specs.List.{AllByRecursion}
 use Rattle.std.proofs.ByRecursion.{All-weaker}
-use Rattle.std.proofs.lemmas.List.{append-nil}
 use Rattle.layouts.specs.Types.{Types}
 use Rattle.cells.specs.Words.{fits}
 use Rattle.scan.specs.Visits.{Visit, Seen}
@@ -10,7 +9,7 @@ use Rattle.scan.specs.Marks.{IsMarked}
 use Rattle.scan.specs.Scan.{Run, pointer}
 use Rattle.scan.specs.Reach.{Reach, lone, InOrder, Apart, Unmarked}
 use Rattle.scan.specs.Laws.{Due, Completes, ScanLaws}
-use Rattle.scan.specs.Pending.{frames, Resume, Entered, Leads}
+use Rattle.scan.specs.Pending.{frames, Resume, Entered}
 use Rattle.scan.specs.Answers.{Traced}
 use Rattle.scan.specs.declared.frame.Frame.{Frame}
 use Rattle.scan.specs.Endings.{Ending, Done}
@@ -62,13 +61,13 @@ module _ (t : Types) (w : List ℕ) {S : Type 0} (step : S → Visit → Option 
   }
 
 -- the walk from the frames of its start to its end
-pub traced : (t : Types) (w : List ℕ) {S : Type 0} (step : S → Visit → Option S) (c a : ℕ) (m : List ℕ) (ps : List Frame) (m₁ : List ℕ) (ps₁ : List Frame) (d₁ : ℕ) (s : S) (vs : List Visit) (m₂ : List ℕ) (ps₂ : List Frame) (d₂ : ℕ) (s₂ : S) (m' : List ℕ) (s' : S) (e : Ending) (n : ℕ) → length m ≡ length w → fits t (length w) c a ≡ true → 0 < length ps → Entered t c a m ps 0 m₁ ps₁ d₁ → Leads t w step vs (frames ps₂ d₂) m₂ s₂ (frames ps₁ d₁) m₁ s → Resume t w step (frames ps₂ d₂) m₂ s₂ [] m' s' e → length vs ≡ n → n ≤ length w → Traced t w step c a m s m' s' (record { ending = e; visits = n })
-traced t w step c a m ps m₁ ps₁ d₁ s vs m₂ ps₂ d₂ s₂ m' s' e n len fit some entered leads r count few =
-    let run : Run t w step (pointer c a) m s vs m' s' e = subst (λ us. Run t w step (pointer c a) m s us m' s' e) (append-nil vs) (ended t w step c a m ps m₁ ps₁ d₁ s (vs ++ []) m' s' e some entered (leads [] m' s' e r)) in
+pub traced : (t : Types) (w : List ℕ) {S : Type 0} (step : S → Visit → Option S) (c a : ℕ) (m : List ℕ) (ps : List Frame) (m₁ : List ℕ) (ps₁ : List Frame) (d₁ : ℕ) (s : S) (vs : List Visit) (m' : List ℕ) (s' : S) (e : Ending) (n : ℕ) → length m ≡ length w → fits t (length w) c a ≡ true → 0 < length ps → Entered t c a m ps 0 m₁ ps₁ d₁ → Resume t w step (frames ps₁ d₁) m₁ s vs m' s' e → n ≡ length vs → n ≤ length w → Traced t w step c a m s m' s' (record { ending = e; visits = n })
+traced t w step c a m ps m₁ ps₁ d₁ s vs m' s' e n len fit some entered r count few =
+    let run : Run t w step (pointer c a) m s vs m' s' e = ended t w step c a m ps m₁ ps₁ d₁ s vs m' s' e some entered r in
     record {
       visits_made = vs;
       run = run;
-      counted = sym count;
+      counted = count;
       few = few;
       laws = laws_hold t w step c a m s vs m' s' len (inside_fits t (length w) c a fit) e run;
     }

@@ -1,5 +1,5 @@
 -- One turn, with d frames pending.
-use Rattle.std.proofs.Common.{◌≡◌, ℕ, suc, ◌+◌, ◌-◌, ◌<◌, ◌≤◌, List, [], length, get_or, set, Some, None, Ok, Err, Option, sym, refl, subst, inl, inr, add-one, arith}
+use Rattle.std.proofs.Common.{◌≡◌, ℕ, suc, ◌+◌, ◌-◌, ◌<◌, ◌≤◌, List, [], ◌∷◌, length, get_or, set, Some, None, Ok, Err, Option, sym, refl, subst, inl, inr, add-one, arith}
 use Rattle.std.proofs.lemmas.Bool.{cases_eq}
 use Rattle.layouts.specs.Types.{Types, Lawful}
 use Rattle.cells.specs.Words.{place}
@@ -7,7 +7,7 @@ use Rattle.scan.specs.Visits.{Visit, Visited}
 use Rattle.scan.specs.Marks.{mark_words}
 use Rattle.scan.specs.Children.{width, child_at, cell_visit}
 use Rattle.scan.specs.Scan.{refused, misfit}
-use Rattle.scan.specs.Pending.{frame_of, frames, Resume, halted, Ready, Good, Entered, Advanced, OneVisit}
+use Rattle.scan.specs.Pending.{frame_of, frames, Resume, halted, Ready, Good, Entered, Advanced}
 use Rattle.scan.specs.declared.frame.Child.TheVariants.{Nothing, Cell, Misfit}
 use Rattle.scan.specs.declared.frame.Frame.{Frame}
 use Rattle.scan.specs.declared.inspector.Full.{Full as FullInspector}
@@ -47,9 +47,9 @@ module _ (t : Types) (laws : Lawful t) (w : List ℕ) {S : Type 0} (step : S →
   small : (top ps d).word ≤ width t (top ps d).code + 1
   small = lower.ready.0.high
 
-  pub turn_visited : (s' : S) → width t (top ps d).code < (top ps d).word → step s (cell_visit t w (top ps d).code (top ps d).address) ≡ Some s' → OneVisit t w step m ps d s m ps (d - 1) s'
+  pub turn_visited : (s' : S) → width t (top ps d).code < (top ps d).word → step s (cell_visit t w (top ps d).code (top ps d).address) ≡ Some s' → Advanced t w step m ps d s (cell_visit t w (top ps d).code (top ps d).address ∷ []) m ps (d - 1) s'
   turn_visited s' past took =
-      (cell_visit t w (top ps d).code (top ps d).address, raise _ _ _ _ _ (pop t w step (top ps d).code (top ps d).address (top ps d).word (d - 1) m ps s s' refl lower (omega (arith, small, short t laws (top ps d).code)) past took))
+      raise _ _ _ _ _ (pop t w step (top ps d).code (top ps d).address (top ps d).word (d - 1) m ps s s' refl lower (omega (arith, small, short t laws (top ps d).code)) past took)
 
   pub turn_refused : (s' : S) → s' ≡ s → width t (top ps d).code < (top ps d).word → step s (cell_visit t w (top ps d).code (top ps d).address) ≡ None → Resume t w step (frames ps d) m s [] m s' (Err (Full (top ps d).address))
   turn_refused s' same past none =

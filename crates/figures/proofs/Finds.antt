@@ -5,7 +5,7 @@ use Rattle.refusals.specs.declared.refusal.Refusal.TheVariants.{NoRun}
 use Rattle.layouts.specs.Types.{Types}
 use Rattle.calls.specs.declared.record.HoldRecord.{HoldRecord}
 use Rattle.scan.specs.Visits.{Visit}
-use Rattle.scan.specs.declared.scanned.Ending.TheVariants.{Done}
+use Rattle.scan.specs.Endings.{Done}
 use Rattle.free_list.specs.Free.{FirstFit, NoFit, proper, broken}
 use Rattle.free_list.specs.Cells.{Cut, zeroed, shortened}
 use Rattle.free_list.specs.Taken.{Heap, Given}

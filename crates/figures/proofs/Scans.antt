@@ -6,7 +6,7 @@ use Rattle.scan.specs.Marks.{IsMarked}
 use Rattle.scan.specs.Children.{cell_visit}
 use Rattle.scan.specs.Scan.{Run, pointer, opened, visited, plain, child}
 use Rattle.scan.specs.declared.inspector.Nobody.{Nobody}
-use Rattle.scan.specs.declared.scanned.Ending.TheVariants.{Done}
+use Rattle.scan.specs.Endings.{Done}
 use Rattle.free_list.specs.Free.{Next, FirstFit, NoFit, proper, span}
 use Rattle.marking.specs.Roots.{Roots, takes_all, finished, nothing, scanned}
 use Rattle.sweeping.specs.Sweeping.{IsFree, Stretches, NoStart, Swept}

@@ -19,7 +19,7 @@ use Rattle.replay.specs.Steps.{CallStep, Run, done, accepted as accepts, refused
 use Rattle.calls.specs.Rows.{row_1, memory_due}
 use Rattle.cells.specs.Words.{words_in}
 use Rattle.scan.specs.Marks.{unmarked}
-use Rattle.scan.specs.declared.scanned.Ending.TheVariants as ending
+use Rattle.scan.specs.Endings as ending
 use Rattle.marking.specs.Roots.{Roots, roots}
 use Rattle.sweeping.specs.Sweeping.{Swept, Sweeps}
 use Rattle.sweeping.proofs.Once.{one_sweep}

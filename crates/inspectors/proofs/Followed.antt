@@ -3,7 +3,7 @@ use Rattle.std.proofs.Common.{◌≡◌, ℕ, List, Some, None, Option}
 use Rattle.layouts.specs.Types.{Types}
 use Rattle.scan.specs.Visits.{Visit}
 use Rattle.scan.specs.Scan.{Run, Task, marked, opened, visited, refused, plain, misfit, child, stopped}
-use Rattle.scan.specs.declared.scanned.Ending.{Ending}
+use Rattle.scan.specs.Endings.{Ending}
 
 module _ (t : Types) (w : List ℕ) {S X : Type 0} (f : S → Visit → Option S) (g : X → Visit → Option X) (Follows : S → X → Type 0)
     (takes : (s s' : S) (x : X) (v : Visit) → Follows s x → f s v ≡ Some s' → (x' : X) × (g x v ≡ Some x') × Follows s' x')

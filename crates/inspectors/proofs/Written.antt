@@ -3,7 +3,7 @@ use Rattle.std.proofs.Common.{◌≡◌, ℕ, ◌+◌, min, Bool, true, false, c
 use Rattle.layouts.specs.Types.{Types}
 use Rattle.scan.specs.Visits.{Visit}
 use Rattle.scan.specs.Scan.{Run, Task}
-use Rattle.scan.specs.declared.scanned.Ending.{Ending}
+use Rattle.scan.specs.Endings.{Ending}
 use Rattle.inspectors.specs.declared.lister.Lister.{Lister}
 use Rattle.inspectors.specs.Lines.{Room, appended}
 use Rattle.inspectors.specs.Listings.{line_of, lister_step, text_step, written, Spans}

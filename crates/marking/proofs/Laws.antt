@@ -7,7 +7,7 @@ use Rattle.cells.specs.declared.content.Content.{Content}
 use Rattle.scan.specs.Visits.{Visit, Seen}
 use Rattle.scan.specs.Marks.{IsMarked}
 use Rattle.scan.specs.Reach.{Reach, root, through}
-use Rattle.scan.specs.declared.scanned.Ending.{Ending}
+use Rattle.scan.specs.Endings.{Ending}
 use Rattle.scan.proofs.Filled.{all_seen}
 use Rattle.marking.specs.Roots.{Roots}
 use Rattle.marking.specs.Laws.{OfCell, MarkLaws}

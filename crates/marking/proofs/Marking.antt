@@ -6,8 +6,7 @@ use Rattle.layouts.specs.Types.{Types}
 use Rattle.calls.specs.declared.record.HoldRecord.{HoldRecord}
 use Rattle.calls.specs.Rows.{memory_due}
 use Rattle.scan.specs.Scan.{Stops}
-use Rattle.scan.specs.declared.scanned.Ending.{Ending}
-use Rattle.scan.specs.declared.scanned.Ending.TheVariants.{Done, Broken, Full}
+use Rattle.scan.specs.Endings.{Ending}
 use Rattle.marking.specs.Roots.{Roots, roots}
 use Rattle.marking.specs.Marking.{kept, Scans, Marks}
 use Rattle.marking.proofs.Runs.{marks_long}
@@ -15,9 +14,8 @@ use Rattle.marking.proofs.Laws.{mark_laws}
 use Rattle.marking.proofs.Steps.{told_done, told_stops}
 
 kept_stopped : (L : ℕ) (m : List ℕ) (e : Ending) → Stops e → kept L m e ≡ replicate L 0
-kept_stopped L m Done stop = absurd stop
-kept_stopped L m (Broken p) stop = refl
-kept_stopped L m (Full b) stop = refl
+kept_stopped L m (Ok x) stop = absurd stop
+kept_stopped L m (Err e) stop = refl
 
 module _ (t : Types) (w : List ℕ) (rs rs' : List HoldRecord) (P : ℕ) (m m₀ m₁ m' : List ℕ) (due : None ≡ memory_due (length w) (length m) P) (same : rs' ≡ rs) (zero : m₀ ≡ replicate (length w) 0) where
   marking : (r : Result ℕ Refusal) (one : Scans t w (roots rs') m₀ m₁ r) → m' ≡ kept (length w) m₁ one.ending → Marks t w rs P m m' r

@@ -1,5 +1,5 @@
 -- What the scans of contents, one after the other, make of the marks.
-use Rattle.std.proofs.Common.{◌≡◌, ℕ, zero, suc, ◌+◌, ◌≤◌, true, ◌⊎◌, List, [], ◌∷◌, ◌++◌, length, get_or, sym, refl, ◌∙◌, subst, inl, inr, arith, length-append}
+use Rattle.std.proofs.Common.{◌≡◌, ℕ, zero, suc, ◌+◌, ◌≤◌, true, ◌⊎◌, List, [], ◌∷◌, ◌++◌, length, get_or, sym, refl, ◌∙◌, subst, inl, inr, arith, length-append, Err}
 use Rattle.std.specs.List.{AllByRecursion}
 use Rattle.std.proofs.ByRecursion.{All-append, All-weaker}
 use Rattle.std.proofs.lemmas.Bool.{and_from, le-leb}
@@ -13,8 +13,8 @@ use Rattle.scan.specs.Scan.{Run, pointer, Stops}
 use Rattle.scan.specs.Reach.{Reach, root, through, lone, InOrder, Apart, InCell, Closed}
 use Rattle.scan.specs.Laws.{Due, ScanLaws, Completes}
 use Rattle.scan.specs.declared.inspector.Nobody.{Nobody}
-use Rattle.scan.specs.declared.scanned.Ending.{Ending}
-use Rattle.scan.specs.declared.scanned.Ending.TheVariants.{Done, Broken, Full}
+use Rattle.scan.specs.Endings.{Ending, Done}
+use Rattle.scan.specs.declared.scanned.Stop.TheVariants.{Broken, Full}
 use Rattle.scan.proofs.Inside.{Inside, inside_fits, inside_child}
 use Rattle.scan.proofs.Grown.{Grown, Written, then_written, grown, run_length, run_written}
 use Rattle.scan.proofs.Reached.{own_only, reach_on, once_append}
@@ -73,7 +73,7 @@ module _ (t : Types) (w : List ℕ) where
       omega (arith, length-append vs₁ vs₂)
   marks_room (stopped fit r stop) len = (one_laws fit r len).room
 
-  pub never_full : {ks : List Content} {m m' : List ℕ} {vs : List Visit} {e : Ending} → Roots t w ks m vs m' e → length m ≡ length w → (b : ℕ) → e ≡ Full b → ⊥
+  pub never_full : {ks : List Content} {m m' : List ℕ} {vs : List Visit} {e : Ending} → Roots t w ks m vs m' e → length m ≡ length w → (b : ℕ) → e ≡ Err (Full b) → ⊥
   never_full finished len b is = let z : ◌≡◌ {A = ℕ} 0 1 = cc in omega arith
   never_full (nothing r) len b is = never_full r len b is
   never_full (immediate r) len b is = never_full r len b is
@@ -155,7 +155,7 @@ module _ (t : Types) (w : List ℕ) (all : List Content) where
   further k ks p (inl x) = inl (x.0, (suc x.1.0, x.1.1, x.1.2, x.1.3, x.1.4))
   further k ks p (inr x) = inr x
 
-  pub breaks : {ks : List Content} {m m' : List ℕ} {vs : List Visit} {e : Ending} → Roots t w ks m vs m' e → length m ≡ length w → Among ks → (p : ℕ) → e ≡ Broken p → ((p ≡ 0) × UnfitRoot t w ks) ⊎ BrokenAt t w all p
+  pub breaks : {ks : List Content} {m m' : List ℕ} {vs : List Visit} {e : Ending} → Roots t w ks m vs m' e → length m ≡ length w → Among ks → (p : ℕ) → e ≡ Err (Broken p) → ((p ≡ 0) × UnfitRoot t w ks) ⊎ BrokenAt t w all p
   breaks finished len at p is = let z : ◌≡◌ {A = ℕ} 0 1 = cc in absurd (omega arith)
   breaks (nothing {ks = ks} r) len at p is = further Nothing ks p (breaks r len (λ i. at (suc i)) p is)
   breaks (immediate {c = c} {x = x} {ks = ks} r) len at p is = further (Immediate c x) ks p (breaks r len (λ i. at (suc i)) p is)

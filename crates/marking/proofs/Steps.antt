@@ -1,6 +1,7 @@
 -- One content more, and the end of a scan of contents.
 use Rattle.std.proofs.Common.{◌≡◌, ℕ, ◌+◌, ◌<◌, ◌≤◌, Bool, true, false, cond, List, [], ◌∷◌, ◌++◌, length, take, drop, Some, None, Ok, Err, Result, sym, refl, ap, ◌∙◌, subst, arith, length-append}
 use Rattle.std.proofs.lemmas.List.{append_assoc, append-nil, map-append, map_more, take-append-drop, take_all}
+use Rattle.std.proofs.lemmas.Bool.Decides.{nat_tests}
 use Rattle.refusals.specs.declared.refusal.Refusal.{Refusal}
 use Rattle.layouts.specs.Types.{Types}
 use Rattle.cells.specs.declared.content.Content.{Content}
@@ -12,9 +13,11 @@ use Rattle.scan.specs.Visits.{Visit}
 use Rattle.scan.specs.Scan.{Run, pointer, Stops}
 use Rattle.scan.specs.Answers.{unscanned, Traced}
 use Rattle.scan.specs.declared.inspector.Nobody.{Nobody}
-use Rattle.scan.specs.declared.scanned.Ending.{Ending}
-use Rattle.scan.specs.declared.scanned.Ending.TheVariants.{Done, Broken, Full}
+use Rattle.scan.specs.Endings.{Ending, Done, refusal_of, unmade}
+use Rattle.scan.specs.declared.scanned.Stop.{Stop}
+use Rattle.scan.specs.declared.scanned.Stop.TheVariants.{Broken}
 use Rattle.scan.specs.declared.scanned.Scanned.{Scanned}
+use Rattle.scan.specs.declared.scanned.Unscanned.{Unscanned}
 use Rattle.scan.specs.declared.scanned.Unscanned.TheVariants.{Memory, Root}
 use Rattle.scan.proofs.Counts.{unmarked_all}
 use Rattle.marking.specs.Roots.{Roots, roots, takes_all, finished, nothing, immediate, unfit, scanned, stopped}
@@ -31,6 +34,13 @@ fits_refused true f e = let z : ◌≡◌ {A = ℕ} 0 1 = cc in absurd (omega ar
 fits_refused false true e = let z : ◌≡◌ {A = ℕ} 0 1 = cc in absurd (omega arith)
 fits_refused false false e = refl
 
+-- what a scan that is done answers, and one that stops
+pub told_end : (e : Ending) (n : ℕ) (x : Unit {0}) → e ≡ Ok x → Ok n ≡ told e n
+told_end e n x is = cc
+
+pub told_stop : (e : Ending) (n : ℕ) (stop : Stop) (r : Result ℕ Refusal) → e ≡ Err stop → r ≡ Err (refusal_of stop) → r ≡ told e n
+told_stop e n stop r is e' = cc
+
 module _ (t : Types) (w : List ℕ) where
   pub no_cell : (k : Content) (m : List ℕ) → ((c a : ℕ) → k ≡ Cell c a → ⊥) → Scans t w (k ∷ []) m m (Ok 0)
   no_cell Nothing m none = record { visits = []; ending = Done; run = nothing finished; answer = refl }
@@ -38,9 +48,8 @@ module _ (t : Types) (w : List ℕ) where
   no_cell (Immediate c x) m none = record { visits = []; ending = Done; run = immediate finished; answer = refl }
 
   one_root : (c a : ℕ) (m : List ℕ) (s : Nobody) (vs : List Visit) (m' : List ℕ) (s' : Nobody) (e : Ending) → fits t (length w) c a ≡ true → Run t w takes_all (pointer c a) m s vs m' s' e → Roots t w (Cell c a ∷ []) m vs m' e
-  one_root c a m s vs m' s' Done fit r = subst (λ us. Roots t w (Cell c a ∷ []) m us m' Done) (append-nil vs) (scanned fit r finished)
-  one_root c a m s vs m' s' (Broken p) fit r = stopped fit r tt
-  one_root c a m s vs m' s' (Full b) fit r = stopped fit r tt
+  one_root c a m s vs m' s' (Ok x) fit r = subst (λ us. Roots t w (Cell c a ∷ []) m us m' Done) (append-nil vs) (scanned fit r finished)
+  one_root c a m s vs m' s' (Err e) fit r = stopped fit r tt
 
   pub root_scanned : (k : Content) (c a P : ℕ) (m : List ℕ) (s : Nobody) (m' : List ℕ) (s' : Nobody) (x : Scanned) (r : Result ℕ Refusal) → k ≡ Cell c a → unscanned t (length w) (length m) P c a ≡ None → Traced t w takes_all c a m s m' s' x → r ≡ told x.ending x.visits → Scans t w (k ∷ []) m m' r
   root_scanned k c a P m s m' s' x r is none made e =
@@ -52,10 +61,12 @@ module _ (t : Types) (w : List ℕ) where
         answer = e ∙ ap (told x.ending) made.counted;
       })
 
-  pub root_unfit : (k : Content) (c a P : ℕ) (m m' : List ℕ) (r : Result ℕ Refusal) → k ≡ Cell c a → unscanned t (length w) (length m) P c a ≡ Some Root → m' ≡ m → r ≡ told (Broken 0) 0 → Scans t w (k ∷ []) m m' r
-  root_unfit k c a P m m' r is none same e =
+  -- with marks and pending places enough, only a pointer that does not fit is refused
+  pub root_refused : (k : Content) (c a P : ℕ) (m m' : List ℕ) (u : Unscanned) (r : Result ℕ Refusal) → k ≡ Cell c a → length m ≡ length w → length w ≤ P → unscanned t (length w) (length m) P c a ≡ Some u → m' ≡ m → r ≡ Err (unmade u) → Scans t w (k ∷ []) m m' r
+  root_refused k c a P m m' Memory r is len le none same e = grind (arith, nat_tests)
+  root_refused k c a P m m' Root r is len le none same e =
       subst (λ (y : Content). Scans t w (y ∷ []) m m' r) (sym is)
-      (subst (λ x. Scans t w (Cell c a ∷ []) m x r) (sym same) (record { visits = []; ending = Broken 0; run = unfit (fits_refused _ _ none); answer = e }))
+      (subst (λ x. Scans t w (Cell c a ∷ []) m x r) (sym same) (record { visits = []; ending = Err (Broken 0); run = unfit (fits_refused _ _ none); answer = e }))
 
   -- contents after contents
   pub then_roots : {ks js : List Content} {m m₁ m₂ : List ℕ} {vs us : List Visit} {e₁ e : Ending} → Roots t w ks m vs m₁ e₁ → e₁ ≡ Done → Roots t w js m₁ us m₂ e → Roots t w (ks ++ js) m (vs ++ us) m₂ e
@@ -77,15 +88,13 @@ module _ (t : Types) (w : List ℕ) where
   cut_short js (stopped fit r stop) still = stopped fit r stop
 
   pub told_done : (e : Ending) (n x : ℕ) → Ok x ≡ told e n → (e ≡ Done) × (n ≡ x)
-  told_done Done n x is = (refl, (cc))
-  told_done (Broken p) n x is = let z : ◌≡◌ {A = ℕ} 0 1 = cc in absurd (omega arith)
-  told_done (Full b) n x is = let z : ◌≡◌ {A = ℕ} 0 1 = cc in absurd (omega arith)
+  told_done (Ok u) n x is = (refl, (cc))
+  told_done (Err e) n x is = let z : ◌≡◌ {A = ℕ} 0 1 = cc in absurd (omega arith)
 
   -- a refusal stops, whatever was counted
   pub told_stops : (e : Ending) (n k : ℕ) (f : Refusal) → Err f ≡ told e n → Stops e × (Err f ≡ told e k)
-  told_stops Done n k f is = let z : ◌≡◌ {A = ℕ} 0 1 = cc in absurd (omega arith)
-  told_stops (Broken p) n k f is = (tt, is)
-  told_stops (Full b) n k f is = (tt, is)
+  told_stops (Ok u) n k f is = let z : ◌≡◌ {A = ℕ} 0 1 = cc in absurd (omega arith)
+  told_stops (Err e) n k f is = (tt, is)
 
   -- the first i holds of rs turn m into m₁ by n visits
   pub record First (rs : List HoldRecord) (i : ℕ) (m m₁ : List ℕ) (n : ℕ) : Type 0 where

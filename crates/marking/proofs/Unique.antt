@@ -4,7 +4,7 @@ use Rattle.layouts.specs.Types.{Types}
 use Rattle.cells.specs.declared.content.Content.{Content}
 use Rattle.scan.specs.Visits.{Visit}
 use Rattle.scan.specs.Scan.{Stops}
-use Rattle.scan.specs.declared.scanned.Ending.{Ending}
+use Rattle.scan.specs.Endings.{Ending}
 use Rattle.scan.proofs.Unique.{unique}
 use Rattle.marking.specs.Roots.{Roots, takes_all, finished, nothing, immediate, unfit, scanned, stopped}
 

@@ -1,5 +1,5 @@
 -- What holds of every marking from zero marks.
-use Rattle.std.specs.Prelude.{◌≡◌, ℕ, ◌≤◌, true, false, ◌⊎◌, List, length, replicate, ◌≢◌, slice_index, slice_index_or}
+use Rattle.std.specs.Prelude.{◌≡◌, ℕ, ◌≤◌, true, false, ◌⊎◌, List, length, replicate, ◌≢◌, slice_index, slice_index_or, Err}
 use Rattle.std.specs.List.{AllByRecursion}
 use Rattle.layouts.specs.Types.{Types}
 use Rattle.cells.specs.declared.content.Content.{Content}
@@ -10,8 +10,8 @@ use Rattle.scan.specs.Marks.{IsMarked}
 use Rattle.scan.specs.Children.{width, child_at, cell_visit}
 use Rattle.scan.specs.Reach.{Reach, InOrder, Apart, InCell, CellMarked}
 use Rattle.scan.specs.declared.frame.Child.TheVariants.{Misfit}
-use Rattle.scan.specs.declared.scanned.Ending.{Ending}
-use Rattle.scan.specs.declared.scanned.Ending.TheVariants.{Done, Broken, Full}
+use Rattle.scan.specs.Endings.{Ending, Done}
+use Rattle.scan.specs.declared.scanned.Stop.TheVariants.{Broken, Full}
 use Rattle.marking.specs.Roots.{Roots}
 
 -- a visit of a reached cell that fits, with the words of that cell
@@ -44,8 +44,8 @@ pub record MarkLaws (t : Types) (w : List ℕ) (ks : List Content) (vs : List Vi
   pub once : Once vs
   pub due : AllByRecursion (OfCell t w ks) vs
   -- what is broken is a root that does not fit, told by address 0, or a word of a reached cell
-  pub broken : (p : ℕ) → e ≡ Broken p → ((p ≡ 0) × UnfitRoot t w ks) ⊎ BrokenAt t w ks p
-  pub never_full : (b : ℕ) → e ≢ Full b
+  pub broken : (p : ℕ) → e ≡ Err (Broken p) → ((p ≡ 0) × UnfitRoot t w ks) ⊎ BrokenAt t w ks p
+  pub never_full : (b : ℕ) → e ≢ Err (Full b)
   -- where all is in order, the marking is done
   pub done : InOrder t w ks → RootsFit t w ks → e ≡ Done
   -- where reached cells do not overlap, the visits are exactly the reached cells, and these are marked in all their words

@@ -1,22 +1,19 @@
 -- What marking from all holds answers and leaves, on any memory, hold table and source.
 use Rattle.std.specs.Prelude.{◌≡◌, ℕ, List, length, replicate, Some, None, Ok, Err, Result}
 use Rattle.refusals.specs.declared.refusal.Refusal.{Refusal}
-use Rattle.refusals.specs.declared.refusal.Refusal.TheVariants.{InspectorFull, Broken as BrokenContent}
 use Rattle.layouts.specs.Types.{Types}
 use Rattle.cells.specs.declared.content.Content.{Content}
 use Rattle.calls.specs.declared.record.HoldRecord.{HoldRecord}
 use Rattle.calls.specs.Rows.{memory_due}
 use Rattle.scan.specs.Visits.{Visit}
-use Rattle.scan.specs.declared.scanned.Ending.{Ending}
-use Rattle.scan.specs.declared.scanned.Ending.TheVariants.{Done, Broken, Full}
+use Rattle.scan.specs.Endings.{Ending, refusal_of}
 use Rattle.marking.specs.Roots.{Roots, roots}
 use Rattle.marking.specs.Laws.{MarkLaws}
 
 -- what the ending of a scan and the number of its visits answer
 abbrev pub told : Ending → ℕ → Result ℕ Refusal
-told Done n = Ok n
-told (Broken p) n = Err (BrokenContent p)
-told (Full a) n = Err (InspectorFull a)
+told (Ok x) n = Ok n
+told (Err stop) n = Err (refusal_of stop)
 
 -- the contents ks were scanned, from marks m to m', with the answer r
 pub record Scans (t : Types) (w : List ℕ) (ks : List Content) (m m' : List ℕ) (r : Result ℕ Refusal) : Type 0 where
@@ -27,9 +24,8 @@ pub record Scans (t : Types) (w : List ℕ) (ks : List Content) (m m' : List ℕ
 
 -- the marks stay where the marking is done, and are zero again where it is not
 abbrev pub kept : ℕ → List ℕ → Ending → List ℕ
-kept L m Done = m
-kept L m (Broken p) = replicate L 0
-kept L m (Full a) = replicate L 0
+kept L m (Ok x) = m
+kept L m (Err stop) = replicate L 0
 
 -- the marking from the holds rs, from zero marks to m'
 pub record Marked (t : Types) (w : List ℕ) (rs : List HoldRecord) (m' : List ℕ) (r : Result ℕ Refusal) : Type 0 where

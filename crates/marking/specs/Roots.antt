@@ -1,5 +1,5 @@
 -- The scans of what holds have, one after the other.
-use Rattle.std.specs.Prelude.{◌≡◌, ℕ, true, false, List, [], ◌∷◌, ◌++◌, map, length, Some, Option}
+use Rattle.std.specs.Prelude.{◌≡◌, ℕ, true, false, List, [], ◌∷◌, ◌++◌, map, length, Some, Err, Option}
 use Rattle.layouts.specs.Types.{Types}
 use Rattle.cells.specs.declared.content.Content.{Content}
 use Rattle.cells.specs.declared.content.Content.TheVariants.{Nothing, Cell, Immediate}
@@ -9,8 +9,8 @@ use Rattle.calls.specs.Holds.{root_of}
 use Rattle.scan.specs.Visits.{Visit}
 use Rattle.scan.specs.Scan.{Run, pointer, Stops}
 use Rattle.scan.specs.declared.inspector.Nobody.{Nobody}
-use Rattle.scan.specs.declared.scanned.Ending.{Ending}
-use Rattle.scan.specs.declared.scanned.Ending.TheVariants.{Done, Broken}
+use Rattle.scan.specs.Endings.{Ending, Done}
+use Rattle.scan.specs.declared.scanned.Stop.TheVariants.{Broken}
 
 -- what each hold has
 abbrev pub roots : List HoldRecord → List Content
@@ -26,6 +26,6 @@ pub data Roots (t : Types) (w : List ℕ) : List Content → List ℕ → List V
   finished : {m : List ℕ} → Roots t w [] m [] m Done
   nothing : {ks : List Content} {m m' : List ℕ} {vs : List Visit} {e : Ending} → Roots t w ks m vs m' e → Roots t w (Nothing ∷ ks) m vs m' e
   immediate : {c x : ℕ} {ks : List Content} {m m' : List ℕ} {vs : List Visit} {e : Ending} → Roots t w ks m vs m' e → Roots t w (Immediate c x ∷ ks) m vs m' e
-  unfit : {c a : ℕ} {ks : List Content} {m : List ℕ} → fits t (length w) c a ≡ false → Roots t w (Cell c a ∷ ks) m [] m (Broken 0)
+  unfit : {c a : ℕ} {ks : List Content} {m : List ℕ} → fits t (length w) c a ≡ false → Roots t w (Cell c a ∷ ks) m [] m (Err (Broken 0))
   scanned : {c a : ℕ} {ks : List Content} {m m₁ m₂ : List ℕ} {s s₁ : Nobody} {vs₁ vs₂ : List Visit} {e : Ending} → fits t (length w) c a ≡ true → Run t w takes_all (pointer c a) m s vs₁ m₁ s₁ Done → Roots t w ks m₁ vs₂ m₂ e → Roots t w (Cell c a ∷ ks) m (vs₁ ++ vs₂) m₂ e
   stopped : {c a : ℕ} {ks : List Content} {m m₁ : List ℕ} {s s₁ : Nobody} {vs : List Visit} {e : Ending} → fits t (length w) c a ≡ true → Run t w takes_all (pointer c a) m s vs m₁ s₁ e → Stops e → Roots t w (Cell c a ∷ ks) m vs m₁ e

@@ -1,5 +1,4 @@
 // Marking from all holds.
 #![tactic(auto)]
 
-pub mod answer;
 pub mod mark;

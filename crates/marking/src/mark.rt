@@ -2,7 +2,6 @@ ghost use Rattle.std.specs.Prelude.{◌≡◌, ◌≤◌, [], ◌∷◌, length}
 ghost use Rattle.marking.specs.Roots.{roots};
 ghost use Rattle.marking.specs.Marking.{Scans, Marks as Marking};
 
-use crate::answer::answer;
 use calls::holds::Holds;
 use calls::memory::check_pending;
 use calls::record::HoldRecord;
@@ -11,7 +10,6 @@ use refusals::refusal::Refusal;
 use scan::frame::Frame;
 use scan::guard::Marks;
 use scan::inspector::Nobody;
-use scan::scanned::Unscanned;
 use scan::walk::scan;
 use sources::source::TemplateSource;
 
@@ -32,11 +30,9 @@ fn scan_root<S: TemplateSource>(
         return Ok(0);
     };
     let mut nobody = Nobody;
-    match scan(words, marks, pending, source, &mut nobody, code, address) {
-        Ok(scanned) => answer(scanned.ending, scanned.visits as u32),
-        Err(Unscanned::Root) => Err(Refusal::Broken { address: 0 }),
-        Err(Unscanned::Memory) => unreachable(),
-    }
+    let scanned = scan(words, marks, pending, source, &mut nobody, code, address)?;
+    scanned.ending?;
+    Ok(scanned.visits as u32)
 }
 
 // The same of each hold in turn, until one of them is refused.

@@ -1,5 +1,5 @@
 -- What a marking and a trace visit and mark, in a heap that agrees with a model.
-use Rattle.std.proofs.Common.{◌≡◌, ℕ, zero, suc, List, [], ◌∷◌, map, length, get_or, replicate, None, Ok, Option, Result, sym, refl, ap, ◌∙◌, subst, ap₂, subst₂, inl, inr, arith}
+use Rattle.std.proofs.Common.{◌≡◌, ℕ, zero, suc, List, [], ◌∷◌, map, length, get_or, replicate, None, Ok, Err, Option, Result, sym, refl, ap, ◌∙◌, subst, ap₂, subst₂, inl, inr, arith}
 use Rattle.std.specs.List.{AllByRecursion}
 use Rattle.std.proofs.lemmas.List.{length-map}
 use Rattle.std.proofs.ByRecursion.{All-weaker}
@@ -13,8 +13,8 @@ use Rattle.scan.specs.Marks.{IsMarked}
 use Rattle.scan.specs.Children.{cell_visit}
 use Rattle.scan.specs.Reach.{Reach, lone, Apart, InCell}
 use Rattle.scan.specs.Laws.{Due, ScanLaws}
-use Rattle.scan.specs.declared.scanned.Ending.{Ending}
-use Rattle.scan.specs.declared.scanned.Ending.TheVariants.{Done, Broken, Full}
+use Rattle.scan.specs.Endings.{Ending, Done}
+use Rattle.scan.specs.declared.scanned.Stop.TheVariants.{Broken, Full}
 use Rattle.marking.specs.Roots.{roots}
 use Rattle.calls.specs.Holds.{root_of}
 use Rattle.marking.specs.Laws.{OfCell, MarkLaws}
@@ -160,7 +160,7 @@ module _ (t : Types) (b : Model) (w : List ℕ) (rs : List HoldRecord) (agrees :
   one_are : RootsOf b.cells (InHold b.holds h) one_root
   one_are = lone_root b.cells b.holds h k is
 
-  pub trace_unbroken : (p : ℕ) → e ≡ Broken p → ⊥
+  pub trace_unbroken : (p : ℕ) → e ≡ Err (Broken p) → ⊥
   trace_unbroken = laws.whole (in_order t b.cells w (InHold b.holds h) one_root one_tidy one_are)
 
   one_visits : AllByRecursion (λ v. (l : ℕ) × ReachedFrom b h l × (v ≡ visit t b.cells w l)) vs
@@ -176,7 +176,7 @@ module _ (t : Types) (b : Model) (w : List ℕ) (rs : List HoldRecord) (agrees :
   pub trace_number : e ≡ Done → Number (ReachedFrom b h) (length vs)
   trace_number done = let q = trace_visits done in (q.0, q.1, sym (ap length q.2 ∙ length-map q.0 (visit t b.cells w)))
 
-  pub trace_full : (a : ℕ) → e ≡ Full a → Refused t b w step h vs s' a
+  pub trace_full : (a : ℕ) → e ≡ Err (Full a) → Refused t b w step h vs s' a
   trace_full a is-full =
       let q = cells_of t b.cells w (ReachedFrom b h) vs one_visits in
       let f = laws.full a is-full in

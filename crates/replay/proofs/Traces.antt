@@ -1,5 +1,5 @@
 -- What a trace answers and leaves, told by the model.
-use Rattle.std.proofs.Common.{◌≡◌, ℕ, min, true, ◌⊎◌, List, [], ◌∷◌, length, replicate, Some, None, Option, Result, sym, refl, ap, ◌∙◌, subst, subst₂, inl, inr}
+use Rattle.std.proofs.Common.{◌≡◌, ℕ, min, true, ◌⊎◌, List, [], ◌∷◌, length, replicate, Some, None, Ok, Err, Option, Result, sym, refl, ap, ◌∙◌, subst, subst₂, inl, inr}
 use lib.ListN.{length-replicate}
 use Rattle.std.specs.Option.{option_or}
 use Rattle.std.proofs.lemmas.List.{length-map}
@@ -11,8 +11,8 @@ use Rattle.calls.specs.Rows.{first_due, row_2, row_3, row_6, memory_due}
 use Rattle.calls.specs.Calls as calls
 use Rattle.scan.specs.Visits.{Visit}
 use Rattle.scan.specs.Laws.{ScanLaws}
-use Rattle.scan.specs.declared.scanned.Ending.{Ending}
-use Rattle.scan.specs.declared.scanned.Ending.TheVariants.{Done as Ended, Broken, Full}
+use Rattle.scan.specs.Endings.{Ending, Done}
+use Rattle.scan.specs.declared.scanned.Stop.TheVariants.{Broken, Full}
 use Rattle.marking.specs.Marking.{told}
 use Rattle.tracing.specs.Traces.{Scanned, Traces}
 use Rattle.model.specs.Model.{Model, held, cell, hold_of, code_of, address_of, reading}
@@ -42,17 +42,17 @@ module _ (t : Types) (b : Model) (w : List ℕ) (rs : List HoldRecord) (ag : Agr
   Shown a = ShownAll t b w step h s s' a ⊎ ShownSome t b w step h s s' a
 
   by_ending : (vs : List Visit) (m' : List ℕ) (e : Ending) → ScanLaws t w step (code_of b.cells k) (address_of b.cells k) (replicate (length w) 0) s vs m' s' e → Shown (answer_of Number (told e (length vs)))
-  by_ending vs m' Ended laws =
-      let q = trace_visits t b w rs ag h k is step s vs m' s' Ended laws refl in
+  by_ending vs m' (Ok x) laws =
+      let q = trace_visits t b w rs ag h k is step s vs m' s' Done laws refl in
       inl record {
         cells = q.0;
         listed = q.1;
         inspected = rw (← q.2) laws.held;
         answer = ap Number (ap length q.2 ∙ length-map q.0 _);
       }
-  by_ending vs m' (Broken p) laws = absurd (trace_unbroken t b w rs ag h k is step s vs m' s' (Broken p) laws p refl)
-  by_ending vs m' (Full a) laws =
-      let q = trace_full t b w rs ag h k is step s vs m' s' (Full a) laws a refl in
+  by_ending vs m' (Err (Broken p)) laws = absurd (trace_unbroken t b w rs ag h k is step s vs m' s' (Err (Broken p)) laws p refl)
+  by_ending vs m' (Err (Full a)) laws =
+      let q = trace_full t b w rs ag h k is step s vs m' s' (Err (Full a)) laws a refl in
       inr record {
         cells = q.cells;
         distinct = q.distinct;

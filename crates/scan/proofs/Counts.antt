@@ -1,6 +1,9 @@
 -- How many bytes are unmarked, before and after a mark.
-use Rattle.std.proofs.Common.{◌≡◌, ℕ, zero, suc, ◌+◌, ◌<◌, ◌≤◌, List, [], ◌∷◌, length, set, refl, ◌∙◌, add-zero, arith, length-set}
+use Rattle.std.proofs.Common.{◌≡◌, ℕ, zero, suc, ◌+◌, ◌<◌, ◌≤◌, List, [], ◌∷◌, ◌++◌, length, take, drop, get_or, set, replicate, sym, refl, ap, ap₂, subst, ◌∙◌, drop-drop, add-zero, add-suc, arith, length-set, length-append}
 use Rattle.std.proofs.lemmas.Bool.Decides.{nat_tests}
+use Rattle.std.proofs.lemmas.List.{append_assoc, take-append-drop, length-take-le, length-replicate}
+use Rattle.std.proofs.Math.Seq.{drop-cons, set-append_seam}
+use borrow.Rule.Slice.PartMut.{put_mid}
 use Rattle.scan.specs.Marks.{IsMarked, mark_words, unmarked}
 
 pub unmarked_cons : (b : ℕ) (m : List ℕ) → unmarked m ≤ unmarked (b ∷ m)
@@ -37,3 +40,22 @@ mark_lt m a (suc (suc n)) lt pos no_one =
 pub length_mark : (m : List ℕ) (a n : ℕ) → length (mark_words m a n) ≡ length m
 length_mark m a zero = refl
 length_mark m a (suc n) = length-set (mark_words m a n) (a + n) 1 ∙ length_mark m a n
+
+ones_more : (n : ℕ) (ys : List ℕ) → replicate n 1 ++ (1 ∷ ys) ≡ 1 ∷ (replicate n 1 ++ ys)
+ones_more zero ys = refl
+ones_more (suc n) ys = ap (λ xs. 1 ∷ xs) (ones_more n ys)
+
+filled : (m : List ℕ) (a n k : ℕ) → a + n ≤ length m → k ≡ n → take a m ++ (replicate n 1 ++ drop (a + k) m) ≡ mark_words m a n
+filled m a zero k le same = rw (same, add-zero) (take-append-drop a m)
+filled m a (suc n) k le same =
+    let front : List ℕ = take a m ++ replicate n 1 in
+    let ys : List ℕ = drop (suc (a + n)) m in
+    let len : length front ≡ a + n = length-append (take a m) (replicate n 1) ∙ ap₂ (λ x y. x + y) (length-take-le a m (omega arith)) (length-replicate n 1) in
+    let rest : drop (a + n) m ≡ get_or m (a + n) 0 ∷ ys = drop-cons m (a + n) 0 (omega arith) in
+    let was : front ++ (get_or m (a + n) 0 ∷ ys) ≡ mark_words m a n = append_assoc (take a m) (replicate n 1) _ ∙ ap (λ xs. take a m ++ (replicate n 1 ++ xs)) (sym rest) ∙ filled m a n n (omega arith) refl in
+    let here : set (front ++ (get_or m (a + n) 0 ∷ ys)) (a + n) 1 ≡ front ++ (1 ∷ ys) = subst (λ i. set (front ++ (get_or m (a + n) 0 ∷ ys)) i 1 ≡ front ++ (1 ∷ ys)) len (set-append_seam front (get_or m (a + n) 0) ys 1) in
+    rw (same, add-suc) (ap (λ xs. take a m ++ xs) (sym (ones_more n ys)) ∙ sym (append_assoc (take a m) (replicate n 1) (1 ∷ ys)) ∙ sym here ∙ ap (λ xs. set xs (a + n) 1) was)
+
+-- the bytes of a cell filled with 1 at once
+pub put_ones : (m ys : List ℕ) (a n k : ℕ) → a + n ≤ length m → k ≡ n → ys ≡ replicate n 1 → put_mid a k m ys ≡ mark_words m a n
+put_ones m ys a n k le same ones = rw ones (ap (λ xs. take a m ++ (replicate n 1 ++ xs)) (drop-drop k a m) ∙ filled m a n k le same)

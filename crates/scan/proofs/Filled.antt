@@ -11,8 +11,7 @@ use Rattle.scan.specs.Scan.{Run, Task, pointer, rest, marked, opened, visited, r
 use Rattle.scan.specs.Reach.{Reach, root, through, lone, Apart, CellMarked, ChildrenMarked, Closed}
 use Rattle.scan.specs.Laws.{Completes}
 use Rattle.scan.specs.declared.frame.Child.TheVariants.{Cell}
-use Rattle.scan.specs.declared.scanned.Ending.{Ending}
-use Rattle.scan.specs.declared.scanned.Ending.TheVariants.{Done}
+use Rattle.scan.specs.Endings.{Ending, Done}
 use Rattle.scan.proofs.Counts.{length_mark}
 use Rattle.scan.proofs.Inside.{Inside, inside_child}
 use Rattle.scan.proofs.Grown.{Grown, mark_all, mark_only, grown, run_length}

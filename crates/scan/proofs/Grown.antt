@@ -7,7 +7,7 @@ use Rattle.scan.specs.Visits.{Visit, holds, then_holds}
 use Rattle.scan.specs.Marks.{IsMarked, mark_words}
 use Rattle.scan.specs.Children.{width}
 use Rattle.scan.specs.Scan.{Run, Task, marked, opened, visited, refused, plain, misfit, child, stopped}
-use Rattle.scan.specs.declared.scanned.Ending.{Ending}
+use Rattle.scan.specs.Endings.{Ending}
 use Rattle.scan.proofs.Counts.{length_mark}
 
 -- what is marked stays marked

@@ -1,8 +1,7 @@
 -- The laws of a scan, and a scan that was made.
-use Rattle.std.proofs.Common.{◌≡◌, ℕ, ◌<◌, ◌≤◌, true, List, [], ◌++◌, length, None, Option, sym, refl, subst, inl, inr}
+use Rattle.std.proofs.Common.{◌≡◌, ℕ, ◌<◌, ◌≤◌, true, List, length, None, Ok, Err, Option, sym, refl, subst, inl, inr}
 use Rattle.std.specs.List.{AllByRecursion}
 use Rattle.std.proofs.ByRecursion.{All-weaker}
-use Rattle.std.proofs.lemmas.List.{append-nil}
 use Rattle.layouts.specs.Types.{Types}
 use Rattle.cells.specs.Words.{fits}
 use Rattle.scan.specs.Visits.{Visit, Seen}
@@ -10,11 +9,11 @@ use Rattle.scan.specs.Marks.{IsMarked}
 use Rattle.scan.specs.Scan.{Run, pointer}
 use Rattle.scan.specs.Reach.{Reach, lone, InOrder, Apart, Unmarked}
 use Rattle.scan.specs.Laws.{Due, Completes, ScanLaws}
-use Rattle.scan.specs.Pending.{frames, Resume, Entered, Leads}
+use Rattle.scan.specs.Pending.{frames, Resume, Entered}
 use Rattle.scan.specs.Answers.{Traced}
 use Rattle.scan.specs.declared.frame.Frame.{Frame}
-use Rattle.scan.specs.declared.scanned.Ending.{Ending}
-use Rattle.scan.specs.declared.scanned.Ending.TheVariants.{Done, Broken, Full}
+use Rattle.scan.specs.Endings.{Ending, Done}
+use Rattle.scan.specs.declared.scanned.Stop.TheVariants.{Broken, Full}
 use Rattle.scan.proofs.Inside.{Inside, inside_fits}
 use Rattle.scan.proofs.Unique.{unique}
 use Rattle.scan.proofs.Grown.{grown, run_length, run_written, held}
@@ -35,9 +34,9 @@ module _ (t : Types) (w : List ℕ) {S : Type 0} (step : S → Visit → Option 
       (λ at. elim (all.seen c₁ a₁ at (all.covered c₁ a₁ at).1) [ inl old ↦ absurd (fresh c₁ a₁ at old) | inr seen ↦ seen ], all_seen (Reach t w (lone c a)) vs c₁ a₁ (All-weaker (Due t w c a m m') (λ v. Reach t w (lone c a) v.code v.address) (λ v h. h.reached) vs (due_visits Done r)))
 
   done_by : (e : Ending) → Run t w step (pointer c a) m s vs m' s' e → InOrder t w (lone c a) → ((x : S) (v : Visit) → step x v ≡ None → ⊥) → e ≡ Done
-  done_by Done r ok never = refl
-  done_by (Broken p) r ok never = let b = breaks t w step (lone c a) r (own t w c a) p refl in absurd (ok b.0 b.1 b.2 b.3 b.4 b.5 b.6)
-  done_by (Full b) r ok never = let f = refuses t w step (lone c a) r (own t w c a) b refl in absurd (never _ _ f.2)
+  done_by (Ok x) r ok never = refl
+  done_by (Err (Broken p)) r ok never = let b = breaks t w step (lone c a) r (own t w c a) p refl in absurd (ok b.0 b.1 b.2 b.3 b.4 b.5 b.6)
+  done_by (Err (Full b)) r ok never = let f = refuses t w step (lone c a) r (own t w c a) b refl in absurd (never _ _ f.2)
 
   pub laws_hold : (e : Ending) → Run t w step (pointer c a) m s vs m' s' e → ScanLaws t w step c a m s vs m' s' e
   laws_hold e r = record {
@@ -62,13 +61,13 @@ module _ (t : Types) (w : List ℕ) {S : Type 0} (step : S → Visit → Option 
   }
 
 -- the walk from the frames of its start to its end
-pub traced : (t : Types) (w : List ℕ) {S : Type 0} (step : S → Visit → Option S) (c a : ℕ) (m : List ℕ) (ps : List Frame) (m₁ : List ℕ) (ps₁ : List Frame) (d₁ : ℕ) (s : S) (vs : List Visit) (m₂ : List ℕ) (ps₂ : List Frame) (d₂ : ℕ) (s₂ : S) (m' : List ℕ) (s' : S) (e : Ending) (n : ℕ) → length m ≡ length w → fits t (length w) c a ≡ true → 0 < length ps → Entered t c a m ps 0 m₁ ps₁ d₁ → Leads t w step vs (frames ps₂ d₂) m₂ s₂ (frames ps₁ d₁) m₁ s → Resume t w step (frames ps₂ d₂) m₂ s₂ [] m' s' e → length vs ≡ n → n ≤ length w → Traced t w step c a m s m' s' (record { ending = e; visits = n })
-traced t w step c a m ps m₁ ps₁ d₁ s vs m₂ ps₂ d₂ s₂ m' s' e n len fit some entered leads r count few =
-    let run : Run t w step (pointer c a) m s vs m' s' e = subst (λ us. Run t w step (pointer c a) m s us m' s' e) (append-nil vs) (ended t w step c a m ps m₁ ps₁ d₁ s (vs ++ []) m' s' e some entered (leads [] m' s' e r)) in
+pub traced : (t : Types) (w : List ℕ) {S : Type 0} (step : S → Visit → Option S) (c a : ℕ) (m : List ℕ) (ps : List Frame) (m₁ : List ℕ) (ps₁ : List Frame) (d₁ : ℕ) (s : S) (vs : List Visit) (m' : List ℕ) (s' : S) (e : Ending) (n : ℕ) → length m ≡ length w → fits t (length w) c a ≡ true → 0 < length ps → Entered t c a m ps 0 m₁ ps₁ d₁ → Resume t w step (frames ps₁ d₁) m₁ s vs m' s' e → n ≡ length vs → n ≤ length w → Traced t w step c a m s m' s' (record { ending = e; visits = n })
+traced t w step c a m ps m₁ ps₁ d₁ s vs m' s' e n len fit some entered r count few =
+    let run : Run t w step (pointer c a) m s vs m' s' e = ended t w step c a m ps m₁ ps₁ d₁ s vs m' s' e some entered r in
     record {
       visits_made = vs;
       run = run;
-      counted = sym count;
+      counted = count;
       few = few;
       laws = laws_hold t w step c a m s vs m' s' len (inside_fits t (length w) c a fit) e run;
     }

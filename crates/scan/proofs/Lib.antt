@@ -11,3 +11,4 @@ pub mod Filled
 pub mod Order
 pub mod Room
 pub mod Laws
+pub mod Walks

@@ -11,7 +11,7 @@ use Rattle.scan.specs.Scan.{Run, Task, pointer, rest, marked, opened, visited, r
 use Rattle.scan.specs.Reach.{Reach, through, lone, Apart}
 use Rattle.scan.specs.Laws.{Settled, ChildrenFirst}
 use Rattle.scan.specs.declared.frame.Child.TheVariants.{Cell}
-use Rattle.scan.specs.declared.scanned.Ending.{Ending}
+use Rattle.scan.specs.Endings.{Ending}
 use Rattle.scan.proofs.Counts.{length_mark}
 use Rattle.scan.proofs.Inside.{Inside, inside_child}
 use Rattle.scan.proofs.Grown.{mark_only, run_length}

@@ -1,5 +1,5 @@
 -- What a scan marks, breaks at and is refused at, against what is reached.
-use Rattle.std.proofs.Common.{◌≡◌, ℕ, zero, suc, ◌≤◌, ◌⊎◌, List, [], ◌∷◌, ◌++◌, length, get_or, None, Option, sym, refl, ap, ◌∙◌, subst, inl, inr, arith}
+use Rattle.std.proofs.Common.{◌≡◌, ℕ, zero, suc, ◌≤◌, ◌⊎◌, List, [], ◌∷◌, ◌++◌, length, get_or, None, Err, Option, sym, refl, ap, ◌∙◌, subst, inl, inr, arith}
 use Rattle.std.specs.List.{AllByRecursion}
 use Rattle.std.proofs.lemmas.List.{append_assoc}
 use Rattle.std.proofs.ByRecursion.{All-append, All-weaker}
@@ -13,8 +13,8 @@ use Rattle.scan.specs.Children.{width, child_at, cell_visit}
 use Rattle.scan.specs.Scan.{Run, Task, pointer, rest, marked, opened, visited, refused, plain, misfit, child, stopped, Stops}
 use Rattle.scan.specs.Reach.{Reach, root, through, lone, InCell}
 use Rattle.scan.specs.declared.frame.Child.TheVariants.{Misfit}
-use Rattle.scan.specs.declared.scanned.Ending.{Ending}
-use Rattle.scan.specs.declared.scanned.Ending.TheVariants.{Done, Broken, Full}
+use Rattle.scan.specs.Endings.{Ending, Done}
+use Rattle.scan.specs.declared.scanned.Stop.TheVariants.{Broken, Full}
 use Rattle.scan.proofs.Counts.{length_mark}
 use Rattle.scan.proofs.Inside.{Inside, inside_child}
 use Rattle.scan.proofs.Grown.{Grown, mark_grown, mark_all, mark_only, grown, run_length}
@@ -48,7 +48,7 @@ module _ (t : Types) (w : List ℕ) {S : Type 0} (step : S → Visit → Option 
   abbrev pub Misfitting : ℕ → Type 0
   Misfitting p = (c : ℕ) × (a : ℕ) × (i : ℕ) × Reach t w roots c a × (1 ≤ i) × (i ≤ width t c) × (child_at t w c a i ≡ Misfit) × (p ≡ place a i)
 
-  pub breaks : {k : Task} {m m' : List ℕ} {s s' : S} {vs : List Visit} {e : Ending} → Run t w step k m s vs m' s' e → About k → (p : ℕ) → e ≡ Broken p → Misfitting p
+  pub breaks : {k : Task} {m m' : List ℕ} {s s' : S} {vs : List Visit} {e : Ending} → Run t w step k m s vs m' s' e → About k → (p : ℕ) → e ≡ Err (Broken p) → Misfitting p
   breaks (marked one) at p is-broken = let z : ◌≡◌ {A = ℕ} 0 1 = cc in absurd (omega arith)
   breaks (opened none r) at p is-broken = breaks r (at, omega arith) p is-broken
   breaks (visited past took) at p is-broken = let z : ◌≡◌ {A = ℕ} 0 1 = cc in absurd (omega arith)
@@ -58,7 +58,7 @@ module _ (t : Types) (w : List ℕ) {S : Type 0} (step : S → Visit → Option 
   breaks (child le is r q) at p is-broken = breaks q (at.0, omega arith) p is-broken
   breaks (stopped {i = i} le is r stop) at p is-broken = breaks r (through i at.0 at.1 le is) p is-broken
 
-  pub refuses : {k : Task} {m m' : List ℕ} {s s' : S} {vs : List Visit} {e : Ending} → Run t w step k m s vs m' s' e → About k → (b : ℕ) → e ≡ Full b → (c : ℕ) × Reach t w roots c b × (step s' (cell_visit t w c b) ≡ None)
+  pub refuses : {k : Task} {m m' : List ℕ} {s s' : S} {vs : List Visit} {e : Ending} → Run t w step k m s vs m' s' e → About k → (b : ℕ) → e ≡ Err (Full b) → (c : ℕ) × Reach t w roots c b × (step s' (cell_visit t w c b) ≡ None)
   refuses (marked one) at b is-full = let z : ◌≡◌ {A = ℕ} 0 1 = cc in absurd (omega arith)
   refuses (opened none r) at b is-full = refuses r (at, omega arith) b is-full
   refuses (visited past took) at b is-full = let z : ◌≡◌ {A = ℕ} 0 1 = cc in absurd (omega arith)
@@ -160,7 +160,7 @@ module _ (t : Types) (w : List ℕ) {S : Type 0} (step : S → Visit → Option 
   Left (pointer c a) m b = IsMarked m b → ⊥
   Left (rest c a i) m b = (IsMarked m b → ⊥) ⊎ (b ≡ a)
 
-  left : {k : Task} {m m' : List ℕ} {s s' : S} {vs : List Visit} {e : Ending} → Run t w step k m s vs m' s' e → (b : ℕ) → e ≡ Full b → Left k m b
+  left : {k : Task} {m m' : List ℕ} {s s' : S} {vs : List Visit} {e : Ending} → Run t w step k m s vs m' s' e → (b : ℕ) → e ≡ Err (Full b) → Left k m b
   left (marked one) b is-full = let z : ◌≡◌ {A = ℕ} 0 1 = cc in absurd (omega arith)
   left (opened {c = c} {a = a} {m = m} none r) b is-full =
       elim (left r b is-full) [ inl new ↦ λ one. new (mark_grown m a (width t c) b one) | inr same ↦ λ one. none (subst (λ x. IsMarked m x) same one) ]
@@ -171,7 +171,7 @@ module _ (t : Types) (w : List ℕ) {S : Type 0} (step : S → Visit → Option 
   left (child le is r q) b is-full = elim (left q b is-full) [ inl new ↦ inl (λ one. new (grown t w step r b one)) | inr same ↦ inr same ]
   left (stopped le is r stop) b is-full = inl (left r b is-full)
 
-  pub unvisited : {k : Task} {m m' : List ℕ} {s s' : S} {vs : List Visit} {e : Ending} → Run t w step k m s vs m' s' e → length m ≡ length w → Within k m → (b : ℕ) → e ≡ Full b → AllByRecursion (λ (v : Visit). v.address ≡ b → ⊥) vs
+  pub unvisited : {k : Task} {m m' : List ℕ} {s s' : S} {vs : List Visit} {e : Ending} → Run t w step k m s vs m' s' e → length m ≡ length w → Within k m → (b : ℕ) → e ≡ Err (Full b) → AllByRecursion (λ (v : Visit). v.address ≡ b → ⊥) vs
   unvisited (marked one) len at b is-full = tt
   unvisited (opened {c = c} {a = a} {m = m} none r) len at b is-full =
       let i = at.1 in

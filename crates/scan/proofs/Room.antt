@@ -5,7 +5,7 @@ use Rattle.scan.specs.Visits.{Visit}
 use Rattle.scan.specs.Marks.{mark_words, unmarked}
 use Rattle.scan.specs.Children.{width}
 use Rattle.scan.specs.Scan.{Run, Task, pointer, rest, marked, opened, visited, refused, plain, misfit, child, stopped}
-use Rattle.scan.specs.declared.scanned.Ending.{Ending}
+use Rattle.scan.specs.Endings.{Ending}
 use Rattle.scan.proofs.Counts.{mark_lt, length_mark}
 use Rattle.scan.proofs.Inside.{Inside, inside_child}
 use Rattle.scan.proofs.Grown.{run_length}

@@ -8,8 +8,7 @@ use Rattle.scan.specs.Children.{width}
 use Rattle.scan.specs.Scan.{Run, pointer}
 use Rattle.scan.specs.Pending.{frame_of, frames, Resume, finished, AllReady, Good, Entered}
 use Rattle.scan.specs.declared.frame.Frame.{Frame}
-use Rattle.scan.specs.declared.scanned.Ending.{Ending}
-use Rattle.scan.specs.declared.scanned.Ending.TheVariants.{Done}
+use Rattle.scan.specs.Endings.{Ending, Done}
 use Rattle.scan.proofs.Counts.{unmarked_all, mark_lt, length_mark}
 use Rattle.scan.proofs.Inside.{Inside}
 use Rattle.scan.proofs.Frames.{frames_push}

@@ -9,8 +9,7 @@ use Rattle.scan.specs.Scan.{Run, pointer, marked, opened, visited, plain, child,
 use Rattle.scan.specs.Pending.{frame_of, frames, Resume, finished, onward, halted, Ready, AllReady, weight, Good, Leads, Advanced}
 use Rattle.scan.specs.declared.frame.Child.TheVariants.{Nothing, Cell}
 use Rattle.scan.specs.declared.frame.Frame.{Frame}
-use Rattle.scan.specs.declared.scanned.Ending.{Ending}
-use Rattle.scan.specs.declared.scanned.Ending.TheVariants.{Done}
+use Rattle.scan.specs.Endings.{Ending, Done}
 use Rattle.scan.proofs.Counts.{mark_lt, length_mark}
 use Rattle.scan.proofs.Frames.{frames_push}
 

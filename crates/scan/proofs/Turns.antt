@@ -1,5 +1,5 @@
 -- One turn, with d frames pending.
-use Rattle.std.proofs.Common.{◌≡◌, ℕ, suc, ◌+◌, ◌-◌, ◌<◌, ◌≤◌, Bool, true, false, List, [], length, get_or, set, Some, None, Option, sym, refl, subst, inl, inr, add-one, arith}
+use Rattle.std.proofs.Common.{◌≡◌, ℕ, suc, ◌+◌, ◌-◌, ◌<◌, ◌≤◌, List, [], ◌∷◌, length, get_or, set, Some, None, Ok, Err, Option, sym, refl, subst, inl, inr, add-one, arith}
 use Rattle.std.proofs.lemmas.Bool.{cases_eq}
 use Rattle.layouts.specs.Types.{Types, Lawful}
 use Rattle.cells.specs.Words.{place}
@@ -7,10 +7,11 @@ use Rattle.scan.specs.Visits.{Visit, Visited}
 use Rattle.scan.specs.Marks.{mark_words}
 use Rattle.scan.specs.Children.{width, child_at, cell_visit}
 use Rattle.scan.specs.Scan.{refused, misfit}
-use Rattle.scan.specs.Pending.{frame_of, frames, Resume, halted, Ready, Good, Entered, Advanced, OneVisit}
+use Rattle.scan.specs.Pending.{frame_of, frames, Resume, halted, Ready, Good, Entered, Advanced}
 use Rattle.scan.specs.declared.frame.Child.TheVariants.{Nothing, Cell, Misfit}
 use Rattle.scan.specs.declared.frame.Frame.{Frame}
-use Rattle.scan.specs.declared.scanned.Ending.TheVariants.{Broken, Full}
+use Rattle.scan.specs.declared.inspector.Full.{Full as FullInspector}
+use Rattle.scan.specs.declared.scanned.Stop.TheVariants.{Broken, Full}
 use Rattle.scan.proofs.Inside.{short, inside_child}
 use Rattle.scan.proofs.Steps.{pop, pass, pass_marked, push}
 
@@ -24,13 +25,13 @@ back : (d : ℕ) → 0 < d → suc (d - 1) ≡ d
 back d pos = omega arith
 
 -- a visit that was made, and one that was refused
-pub made : {S : Type 0} (o : Option S) (s s' : S) (r : Bool) → Visited o s s' r → r ≡ true → o ≡ Some s'
-made None s s' r v e = let z : ◌≡◌ {A = ℕ} 0 1 = cc in absurd (omega arith)
-made (Some u) s s' r v e = cc
+pub made : {S : Type 0} (o : Option S) (s s' : S) (u : Unit {0}) → Visited o s s' (Ok u) → o ≡ Some s'
+made None s s' u v = let z : ◌≡◌ {A = ℕ} 0 1 = cc (v.0) in absurd (omega arith)
+made (Some x) s s' u v = cc
 
-pub not_made : {S : Type 0} (o : Option S) (s s' : S) (r : Bool) → Visited o s s' r → r ≡ false → (o ≡ None) × (s' ≡ s)
-not_made None s s' r v e = (refl, v.1)
-not_made (Some u) s s' r v e = let z : ◌≡◌ {A = ℕ} 0 1 = cc in absurd (omega arith)
+pub not_made : {S : Type 0} (o : Option S) (s s' : S) (f : FullInspector) → Visited o s s' (Err f) → (o ≡ None) × (s' ≡ s)
+not_made None s s' f v = (refl, v.1)
+not_made (Some x) s s' f v = let z : ◌≡◌ {A = ℕ} 0 1 = cc in absurd (omega arith)
 
 pub top_ready : (t : Types) (L : ℕ) (m : List ℕ) (ps : List Frame) (d : ℕ) → 0 < d → Good t L m ps d → Ready t L (top ps d)
 top_ready t L m ps d pos g =
@@ -46,17 +47,17 @@ module _ (t : Types) (laws : Lawful t) (w : List ℕ) {S : Type 0} (step : S →
   small : (top ps d).word ≤ width t (top ps d).code + 1
   small = lower.ready.0.high
 
-  pub turn_visited : (s' : S) → width t (top ps d).code < (top ps d).word → step s (cell_visit t w (top ps d).code (top ps d).address) ≡ Some s' → OneVisit t w step m ps d s m ps (d - 1) s'
+  pub turn_visited : (s' : S) → width t (top ps d).code < (top ps d).word → step s (cell_visit t w (top ps d).code (top ps d).address) ≡ Some s' → Advanced t w step m ps d s (cell_visit t w (top ps d).code (top ps d).address ∷ []) m ps (d - 1) s'
   turn_visited s' past took =
-      (cell_visit t w (top ps d).code (top ps d).address, raise _ _ _ _ _ (pop t w step (top ps d).code (top ps d).address (top ps d).word (d - 1) m ps s s' refl lower (omega (arith, small, short t laws (top ps d).code)) past took))
+      raise _ _ _ _ _ (pop t w step (top ps d).code (top ps d).address (top ps d).word (d - 1) m ps s s' refl lower (omega (arith, small, short t laws (top ps d).code)) past took)
 
-  pub turn_refused : (s' : S) → s' ≡ s → width t (top ps d).code < (top ps d).word → step s (cell_visit t w (top ps d).code (top ps d).address) ≡ None → Resume t w step (frames ps d) m s [] m s' (Full (top ps d).address)
+  pub turn_refused : (s' : S) → s' ≡ s → width t (top ps d).code < (top ps d).word → step s (cell_visit t w (top ps d).code (top ps d).address) ≡ None → Resume t w step (frames ps d) m s [] m s' (Err (Full (top ps d).address))
   turn_refused s' same past none =
-      subst (λ x. Resume t w step (frames ps d) m s [] m x (Full (top ps d).address)) (sym same) (subst (λ x. Resume t w step (frames ps x) m s [] m s (Full (top ps d).address)) (back d pos) (halted (refused past none) tt))
+      subst (λ x. Resume t w step (frames ps d) m s [] m x (Err (Full (top ps d).address))) (sym same) (subst (λ x. Resume t w step (frames ps x) m s [] m s (Err (Full (top ps d).address))) (back d pos) (halted (refused past none) tt))
 
   module _ (le : (top ps d).word ≤ width t (top ps d).code) where
-    pub turn_misfit : child_at t w (top ps d).code (top ps d).address (top ps d).word ≡ Misfit → Resume t w step (frames ps d) m s [] m s (Broken (place (top ps d).address (top ps d).word))
-    turn_misfit is = subst (λ x. Resume t w step (frames ps x) m s [] m s (Broken (place (top ps d).address (top ps d).word))) (back d pos) (halted (misfit le is) tt)
+    pub turn_misfit : child_at t w (top ps d).code (top ps d).address (top ps d).word ≡ Misfit → Resume t w step (frames ps d) m s [] m s (Err (Broken (place (top ps d).address (top ps d).word)))
+    turn_misfit is = subst (λ x. Resume t w step (frames ps x) m s [] m s (Err (Broken (place (top ps d).address (top ps d).word)))) (back d pos) (halted (misfit le is) tt)
 
     low : (top ps d).word ≤ 255
     low = omega (arith, le, short t laws (top ps d).code)

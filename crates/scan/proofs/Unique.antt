@@ -1,5 +1,5 @@
 -- A scan has one end.
-use Rattle.std.proofs.Common.{◌≡◌, ℕ, ◌+◌, ◌<◌, ◌≤◌, ◌⊎◌, List, [], ◌∷◌, ◌++◌, Some, None, Option, sym, refl, ap, ◌∙◌, subst, inl, inr, arith}
+use Rattle.std.proofs.Common.{◌≡◌, ℕ, ◌+◌, ◌<◌, ◌≤◌, ◌⊎◌, List, [], ◌∷◌, ◌++◌, Some, None, Err, Option, sym, refl, ap, ◌∙◌, subst, inl, inr, arith}
 use Rattle.layouts.specs.Types.{Types}
 use Rattle.cells.specs.Words.{place}
 use Rattle.scan.specs.Visits.{Visit}
@@ -8,20 +8,20 @@ use Rattle.scan.specs.Children.{width, child_at, cell_visit}
 use Rattle.scan.specs.Scan.{Run, Task, pointer, rest, marked, opened, visited, refused, plain, misfit, child, stopped, Stops}
 use Rattle.scan.specs.declared.frame.Child.{Child}
 use Rattle.scan.specs.declared.frame.Child.TheVariants.{Nothing, Cell, Misfit}
-use Rattle.scan.specs.declared.scanned.Ending.{Ending}
-use Rattle.scan.specs.declared.scanned.Ending.TheVariants.{Done, Broken, Full}
+use Rattle.scan.specs.Endings.{Ending, Done}
+use Rattle.scan.specs.declared.scanned.Stop.TheVariants.{Broken, Full}
 
 module _ (t : Types) (w : List ℕ) {S : Type 0} (step : S → Visit → Option S) where
   -- how the word i of a cell can have gone, by what it leads to
   abbrev By : ℕ → ℕ → ℕ → List ℕ → S → List Visit → List ℕ → S → Ending → Child → Type 0
   By c a i m s vs m' s' e Nothing = Run t w step (rest c a (i + 1)) m s vs m' s' e
-  By c a i m s vs m' s' e Misfit = ([] ≡ vs) × (m ≡ m') × (s ≡ s') × (Broken (place a i) ≡ e)
+  By c a i m s vs m' s' e Misfit = ([] ≡ vs) × (m ≡ m') × (s ≡ s') × (Err (Broken (place a i)) ≡ e)
   By c a i m s vs m' s' e (Cell c' a') = ((m₁ : List ℕ) × (s₁ : S) × (vs₁ : List Visit) × (vs₂ : List Visit) × Run t w step (pointer c' a') m s vs₁ m₁ s₁ Done × Run t w step (rest c a (i + 1)) m₁ s₁ vs₂ m' s' e × (vs₁ ++ vs₂ ≡ vs)) ⊎ (Run t w step (pointer c' a') m s vs m' s' e × Stops e)
 
   -- how a pointer, and the rest of a cell, can have gone
   abbrev Shape : Task → List ℕ → S → List Visit → List ℕ → S → Ending → Type 0
   Shape (pointer c a) m s vs m' s' e = (IsMarked m a × ([] ≡ vs) × (m ≡ m') × (s ≡ s') × (Done ≡ e)) ⊎ ((IsMarked m a → ⊥) × Run t w step (rest c a 1) (mark_words m a (width t c)) s vs m' s' e)
-  Shape (rest c a i) m s vs m' s' e = ((width t c < i) × (m ≡ m') × (((step s (cell_visit t w c a) ≡ Some s') × (cell_visit t w c a ∷ [] ≡ vs) × (Done ≡ e)) ⊎ ((step s (cell_visit t w c a) ≡ None) × ([] ≡ vs) × (s ≡ s') × (Full a ≡ e)))) ⊎ ((i ≤ width t c) × By c a i m s vs m' s' e (child_at t w c a i))
+  Shape (rest c a i) m s vs m' s' e = ((width t c < i) × (m ≡ m') × (((step s (cell_visit t w c a) ≡ Some s') × (cell_visit t w c a ∷ [] ≡ vs) × (Done ≡ e)) ⊎ ((step s (cell_visit t w c a) ≡ None) × ([] ≡ vs) × (s ≡ s') × (Err (Full a) ≡ e)))) ⊎ ((i ≤ width t c) × By c a i m s vs m' s' e (child_at t w c a i))
 
   shape : {k : Task} {m m' : List ℕ} {s s' : S} {vs : List Visit} {e : Ending} → Run t w step k m s vs m' s' e → Shape k m s vs m' s' e
   shape (marked one) = inl (one, refl, refl, refl, refl)
@@ -29,7 +29,7 @@ module _ (t : Types) (w : List ℕ) {S : Type 0} (step : S → Visit → Option 
   shape (visited past took) = inl (past, refl, inl (took, refl, refl))
   shape (refused past none) = inl (past, refl, inr (none, refl, refl, refl))
   shape (plain {c = c} {a = a} {i = i} {m = m} {m' = m'} {s = s} {s' = s'} {vs = vs} {e = e} le is r) = inr (le, subst (By c a i m s vs m' s' e) (sym is) r)
-  shape (misfit {c = c} {a = a} {i = i} {m = m} {s = s} le is) = inr (le, subst (By c a i m s [] m s (Broken (place a i))) (sym is) (refl, refl, refl, refl))
+  shape (misfit {c = c} {a = a} {i = i} {m = m} {s = s} le is) = inr (le, subst (By c a i m s [] m s (Err (Broken (place a i)))) (sym is) (refl, refl, refl, refl))
   shape (child {c = c} {a = a} {i = i} {m = m} {m₁ = m₁} {m₂ = m₂} {s = s} {s₁ = s₁} {s₂ = s₂} {vs₁ = vs₁} {vs₂ = vs₂} {e = e} le is r q) = inr (le, subst (By c a i m s (vs₁ ++ vs₂) m₂ s₂ e) (sym is) (inl (m₁, s₁, vs₁, vs₂, r, q, refl)))
   shape (stopped {c = c} {a = a} {i = i} {m = m} {m₁ = m₁} {s = s} {s₁ = s₁} {vs = vs} {e = e} le is r stop) = inr (le, subst (By c a i m s vs m₁ s₁ e) (sym is) (inr (r, stop)))
 

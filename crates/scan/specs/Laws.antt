@@ -1,5 +1,5 @@
 -- What holds of every scan.
-use Rattle.std.specs.Prelude.{◌≡◌, ℕ, ◌+◌, ◌≤◌, ◌⊎◌, List, [], ◌∷◌, ◌++◌, length, Some, None, Option, ◌≢◌, slice_index}
+use Rattle.std.specs.Prelude.{◌≡◌, ℕ, ◌+◌, ◌≤◌, ◌⊎◌, List, [], ◌∷◌, ◌++◌, length, Some, None, Err, Option, ◌≢◌, slice_index}
 use Rattle.std.specs.List.{AllByRecursion}
 use Rattle.layouts.specs.Types.{Types}
 use Rattle.cells.specs.declared.content.Content.{Content}
@@ -10,8 +10,8 @@ use Rattle.scan.specs.Children.{width, child_at, cell_visit}
 use Rattle.scan.specs.Scan.{Run, pointer}
 use Rattle.scan.specs.Reach.{Reach, lone, InOrder, Apart, Unmarked, InCell, CellMarked, Closed}
 use Rattle.scan.specs.declared.frame.Child.TheVariants.{Cell, Misfit}
-use Rattle.scan.specs.declared.scanned.Ending.{Ending}
-use Rattle.scan.specs.declared.scanned.Ending.TheVariants.{Done, Broken, Full}
+use Rattle.scan.specs.Endings.{Ending, Done}
+use Rattle.scan.specs.declared.scanned.Stop.TheVariants.{Broken, Full}
 
 -- a visit of a cell that the pointer reaches and that was not marked, with the words of that cell
 pub record Due (t : Types) (w : List ℕ) (c a : ℕ) (m m' : List ℕ) (v : Visit) : Type 0 where
@@ -60,11 +60,11 @@ pub record ScanLaws (t : Types) (w : List ℕ) {S : Type 0} (step : S → Visit 
   -- where reached cells do not overlap, children are visited before their parents
   pub children_first : Apart t w (lone c a) → ChildrenFirst t w m [] vs
   -- a broken word is a word of a reached cell whose child does not fit; so where all is in order nothing is broken
-  pub broken : (p : ℕ) → e ≡ Broken p → (c₁ : ℕ) × (a₁ : ℕ) × (i : ℕ) × Reach t w (lone c a) c₁ a₁ × (1 ≤ i) × (i ≤ width t c₁) × (child_at t w c₁ a₁ i ≡ Misfit) × (p ≡ place a₁ i)
-  pub whole : InOrder t w (lone c a) → (p : ℕ) → e ≢ Broken p
+  pub broken : (p : ℕ) → e ≡ Err (Broken p) → (c₁ : ℕ) × (a₁ : ℕ) × (i : ℕ) × Reach t w (lone c a) c₁ a₁ × (1 ≤ i) × (i ≤ width t c₁) × (child_at t w c₁ a₁ i ≡ Misfit) × (p ≡ place a₁ i)
+  pub whole : InOrder t w (lone c a) → (p : ℕ) → e ≢ Err (Broken p)
   -- a full inspector refuses the visit of a reached cell, which was not visited before
-  pub full : (b : ℕ) → e ≡ Full b → (c₁ : ℕ) × Reach t w (lone c a) c₁ b × (step s' (cell_visit t w c₁ b) ≡ None)
-  pub unvisited : (b : ℕ) → e ≡ Full b → AllByRecursion (λ (v : Visit). v.address ≢ b) vs
+  pub full : (b : ℕ) → e ≡ Err (Full b) → (c₁ : ℕ) × Reach t w (lone c a) c₁ b × (step s' (cell_visit t w c₁ b) ≡ None)
+  pub unvisited : (b : ℕ) → e ≡ Err (Full b) → AllByRecursion (λ (v : Visit). v.address ≢ b) vs
   -- where all is in order and the inspector is never full, the scan is done
   pub done : InOrder t w (lone c a) → ((x : S) (v : Visit) → step x v ≢ None) → e ≡ Done
   -- one pointer after the other: reached cells that do not overlap

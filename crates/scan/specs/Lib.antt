@@ -1,3 +1,4 @@
+pub mod Endings
 pub mod Visits
 pub mod Marks
 pub mod Children

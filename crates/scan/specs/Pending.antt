@@ -1,15 +1,13 @@
 -- What pending frames have still to do, and what each turn of the scan keeps true of them.
-use Rattle.std.specs.Prelude.{◌≡◌, ℕ, zero, suc, ◌+◌, ◌-◌, ◌*◌, ◌<◌, ◌≤◌, List, [], ◌∷◌, ◌++◌, length, Option, slice_index_or, slice_set}
+use Rattle.std.specs.Prelude.{◌≡◌, ℕ, zero, suc, ◌+◌, ◌-◌, ◌*◌, ◌<◌, ◌≤◌, List, [], ◌∷◌, ◌++◌, length, Err, Ok, Option, slice_index_or, slice_set}
 use Rattle.layouts.specs.Types.{Types}
 use Rattle.scan.specs.Visits.{Visit}
 use Rattle.scan.specs.Marks.{IsMarked, mark_words, unmarked}
 use Rattle.scan.specs.Children.{width}
 use Rattle.scan.specs.Scan.{Run, rest, Stops}
 use Rattle.scan.specs.declared.frame.Frame.{Frame}
-use Rattle.scan.specs.declared.frame.Next.{Next}
-use Rattle.scan.specs.declared.frame.Next.TheVariants.{Onward, Visited, Stop}
-use Rattle.scan.specs.declared.scanned.Ending.{Ending}
-use Rattle.scan.specs.declared.scanned.Ending.TheVariants.{Done}
+use Rattle.scan.specs.declared.walk.Walk.{Walk}
+use Rattle.scan.specs.Endings.{Ending, Done}
 
 abbrev pub frame_of : ℕ → ℕ → ℕ → Frame
 frame_of c a i = record { code = c; address = a; word = i }
@@ -64,11 +62,22 @@ pub record Advanced (t : Types) (w : List ℕ) {S : Type 0} (step : S → Visit 
   pub less : weight m' (frames ps' d') < weight m (frames ps d)
   pub leads : Leads t w step vs (frames ps' d') m' s' (frames ps d) m s
 
--- one visit was made, and so many frames are pending
-abbrev pub OneVisit : (t : Types) (w : List ℕ) {S : Type 0} (step : S → Visit → Option S) → List ℕ → List Frame → ℕ → S → List ℕ → List Frame → ℕ → S → Type 0
-OneVisit t w step m ps d s m' ps' d' s' = (v : Visit) × Advanced t w step m ps d s (v ∷ []) m' ps' d' s'
+-- b goes on over the words, the marks and the templates of a
+pub record Same {S : Type 0} (a b : Walk S) : Type 0 where
+  pub words : b.words ≡ a.words
+  pub source : b.source ≡ a.source
+  pub marks : b.marks.ghost_name ≡ a.marks.ghost_name
 
-abbrev pub Turned : (t : Types) (w : List ℕ) {S : Type 0} (step : S → Visit → Option S) → List ℕ → List Frame → ℕ → S → List ℕ → List Frame → S → Next → Type 0
-Turned t w step m ps d s m' ps' s' (Onward d') = Advanced t w step m ps d s [] m' ps' d' s'
-Turned t w step m ps d s m' ps' s' Visited = OneVisit t w step m ps d s m' ps' (d - 1) s'
-Turned t w step m ps d s m' ps' s' (Stop e) = Resume t w step (frames ps d) m s [] m' s' e
+-- the frames are good, and there is a byte for each visit, each frame and each byte that is not marked
+pub record UnderWay {S : Type 0} (means : S → Types) (a : Walk S) : Type 0 where
+  pub good : Good (means a.source.now) (length a.words.now) a.marks.now a.pending.now a.depth
+  pub few : a.visits + (a.depth + unmarked a.marks.now) ≤ length a.words.now
+
+-- a turn goes on, with a visit more or none, or it stops
+abbrev pub Turned : {S I : Type 0} (means : S → Types) (step : I → Visit → Option I) → Walk S → I → Walk S → I → Ending → Type 0
+Turned means step a i b j (Ok x) = (vs : List Visit) × (b.visits ≡ a.visits + length vs) × Advanced (means a.source.now) a.words.now step a.marks.now a.pending.now a.depth i vs b.marks.now b.pending.now b.depth j
+Turned means step a i b j (Err stop) = (b.visits ≡ a.visits) × Resume (means a.source.now) a.words.now step (frames a.pending.now a.depth) a.marks.now i [] b.marks.now j (Err stop)
+
+-- the turns together, to their end
+abbrev pub Ran : {S I : Type 0} (means : S → Types) (step : I → Visit → Option I) → Walk S → I → Walk S → I → Ending → Type 0
+Ran means step a i b j e = (vs : List Visit) × (b.visits ≡ a.visits + length vs) × (b.visits ≤ length a.words.now) × Resume (means a.source.now) a.words.now step (frames a.pending.now a.depth) a.marks.now i vs b.marks.now j e

@@ -8,7 +8,7 @@ use Rattle.calls.specs.Calls.{code_at, address_at, cell_due}
 use Rattle.scan.specs.Visits.{Visit}
 use Rattle.scan.specs.Scan.{Run, pointer}
 use Rattle.scan.specs.Laws.{ScanLaws}
-use Rattle.scan.specs.declared.scanned.Ending.{Ending}
+use Rattle.scan.specs.Endings.{Ending}
 pub use Rattle.marking.specs.Marking.{told}
 
 -- the scan of the hold's cell from zero marks

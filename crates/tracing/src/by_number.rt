@@ -9,7 +9,6 @@ use refusals::refusal::Refusal;
 use scan::frame::Frame;
 use scan::guard::Marks;
 use scan::inspector::Inspector;
-use scan::scanned::Ending;
 use scan::walk::scan;
 use sources::source::TemplateSource;
 
@@ -29,14 +28,9 @@ fn scan_cell<S: TemplateSource, I: Inspector>(
     requires fit { fits (S.TemplateSource.meaning source.now) (length words.now) code address ≡ true }
     ensures { Scanned (S.TemplateSource.meaning source.now) words.now I.Inspector.step code address inspector.old inspector.new result }
 {
-    let Ok(scanned) = scan(words, marks, pending, source, inspector, code, address) else {
-        return unreachable();
-    };
-    match scanned.ending {
-        Ending::Done => Ok(scanned.visits as u32),
-        Ending::Broken { address } => Err(Refusal::Broken { address }),
-        Ending::Full { address } => Err(Refusal::InspectorFull { address }),
-    }
+    let scanned = scan(words, marks, pending, source, inspector, code, address)?;
+    scanned.ending?;
+    Ok(scanned.visits as u32)
 }
 
 // Shows each cell that the hold reaches to the inspector, children first, and answers how many they are.

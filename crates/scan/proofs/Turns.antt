@@ -1,5 +1,5 @@
 -- One turn, with d frames pending.
-use Rattle.std.proofs.Common.{◌≡◌, ℕ, suc, ◌+◌, ◌-◌, ◌<◌, ◌≤◌, Bool, true, false, List, [], length, get_or, set, Some, None, Option, sym, refl, subst, inl, inr, add-one, arith}
+use Rattle.std.proofs.Common.{◌≡◌, ℕ, suc, ◌+◌, ◌-◌, ◌<◌, ◌≤◌, List, [], length, get_or, set, Some, None, Ok, Err, Option, sym, refl, subst, inl, inr, add-one, arith}
 use Rattle.std.proofs.lemmas.Bool.{cases_eq}
 use Rattle.layouts.specs.Types.{Types, Lawful}
 use Rattle.cells.specs.Words.{place}
@@ -10,6 +10,7 @@ use Rattle.scan.specs.Scan.{refused, misfit}
 use Rattle.scan.specs.Pending.{frame_of, frames, Resume, halted, Ready, Good, Entered, Advanced, OneVisit}
 use Rattle.scan.specs.declared.frame.Child.TheVariants.{Nothing, Cell, Misfit}
 use Rattle.scan.specs.declared.frame.Frame.{Frame}
+use Rattle.scan.specs.declared.inspector.Full.{Full as FullInspector}
 use Rattle.scan.specs.declared.scanned.Ending.TheVariants.{Broken, Full}
 use Rattle.scan.proofs.Inside.{short, inside_child}
 use Rattle.scan.proofs.Steps.{pop, pass, pass_marked, push}
@@ -24,13 +25,13 @@ back : (d : ℕ) → 0 < d → suc (d - 1) ≡ d
 back d pos = omega arith
 
 -- a visit that was made, and one that was refused
-pub made : {S : Type 0} (o : Option S) (s s' : S) (r : Bool) → Visited o s s' r → r ≡ true → o ≡ Some s'
-made None s s' r v e = let z : ◌≡◌ {A = ℕ} 0 1 = cc in absurd (omega arith)
-made (Some u) s s' r v e = cc
+pub made : {S : Type 0} (o : Option S) (s s' : S) (u : Unit {0}) → Visited o s s' (Ok u) → o ≡ Some s'
+made None s s' u v = let z : ◌≡◌ {A = ℕ} 0 1 = cc (v.0) in absurd (omega arith)
+made (Some x) s s' u v = cc
 
-pub not_made : {S : Type 0} (o : Option S) (s s' : S) (r : Bool) → Visited o s s' r → r ≡ false → (o ≡ None) × (s' ≡ s)
-not_made None s s' r v e = (refl, v.1)
-not_made (Some u) s s' r v e = let z : ◌≡◌ {A = ℕ} 0 1 = cc in absurd (omega arith)
+pub not_made : {S : Type 0} (o : Option S) (s s' : S) (f : FullInspector) → Visited o s s' (Err f) → (o ≡ None) × (s' ≡ s)
+not_made None s s' f v = (refl, v.1)
+not_made (Some x) s s' f v = let z : ◌≡◌ {A = ℕ} 0 1 = cc in absurd (omega arith)
 
 pub top_ready : (t : Types) (L : ℕ) (m : List ℕ) (ps : List Frame) (d : ℕ) → 0 < d → Good t L m ps d → Ready t L (top ps d)
 top_ready t L m ps d pos g =

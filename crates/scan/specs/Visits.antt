@@ -1,6 +1,7 @@
 -- Visits of cells, and what an inspector holds after them.
-use Rattle.std.specs.Prelude.{◌≡◌, ℕ, Bool, true, false, ◌⊎◌, List, [], ◌∷◌, Some, None, Option, ◌≢◌}
+use Rattle.std.specs.Prelude.{◌≡◌, ℕ, ◌⊎◌, List, [], ◌∷◌, Some, None, Ok, Option, Result, IsErr, ◌≢◌}
 use Rattle.std.specs.List.{AllByRecursion}
+use Rattle.scan.specs.declared.inspector.Full.{Full}
 
 -- a visit: the type-code, the address and the words of a cell
 pub record Visit : Type 0 where
@@ -12,9 +13,9 @@ abbrev pub visit_of : ℕ → ℕ → List ℕ → Visit
 visit_of c a ws = record { code = c; address = a; words = ws }
 
 -- one visit, made or refused: what is held before and after it, and the answer
-abbrev pub Visited : {S : Type 0} → Option S → S → S → Bool → Type 0
-Visited None s s' r = (r ≡ false) × (s' ≡ s)
-Visited (Some u) s s' r = (r ≡ true) × (s' ≡ u)
+abbrev pub Visited : {S : Type 0} → Option S → S → S → Result (Unit {0}) Full → Type 0
+Visited None s s' r = IsErr r × (s' ≡ s)
+Visited (Some u) s s' r = (r ≡ Ok tt) × (s' ≡ u)
 
 -- what is held after visits, one after the other; none where one of them is refused
 abbrev pub then_holds : {S : Type 0} → Option S → (S → Option S) → Option S

@@ -1,6 +1,10 @@
 ghost use Rattle.std.specs.Prelude.{◌≡◌, Some, Option};
 ghost use Rattle.scan.specs.Visits.{Visit, Visited, visit_of};
 
+// The answer of an inspector that is full: the visit was not made.
+#[derive(Clone, Copy, PartialEq, Eq, Debug)]
+pub struct Full;
+
 // An inspector is shown each cell of a scan once. A visit changes what it holds in a fixed way, or it is full and changes nothing.
 pub trait Inspector {
     type Report;
@@ -10,8 +14,7 @@ pub trait Inspector {
 
     ghost reported: { Self → Self.Report };
 
-    // Answers whether the visit was made.
-    fn visit(&mut self, code: u32, address: u32, words: &[u32]) -> bool
+    fn visit(&mut self, code: u32, address: u32, words: &[u32]) -> Result<(), Full>
         ensures { Visited (step self.old (visit_of code address words.now)) self.old self.new result };
 
     fn report(&self) -> Self::Report
@@ -29,8 +32,8 @@ impl Inspector for Nobody {
 
     ghost reported = { λ s. tt };
 
-    fn visit(&mut self, _code: u32, _address: u32, _words: &[u32]) -> bool {
-        true
+    fn visit(&mut self, _code: u32, _address: u32, _words: &[u32]) -> Result<(), Full> {
+        Ok(())
     }
 
     fn report(&self) -> () {}

@@ -8,7 +8,7 @@ ghost use Rattle.scan.specs.Pending.{Good, Entered, Turned};
 ghost use Rattle.scan.specs.Answers.{Traced, Answers};
 
 use crate::frame::{Child, Frame, Next};
-use crate::inspector::Inspector;
+use crate::inspector::{Full, Inspector};
 use crate::scanned::{Ending, Scanned, Unscanned};
 use cells::content::Content;
 use cells::words::{does_fit, read_content, words_of};
@@ -81,7 +81,7 @@ fn child_of<S: TemplateSource>(words: &[u32], source: &S, frame: Frame) -> Child
 }
 
 // Shows the frame's cell, of n words, to the inspector.
-fn show<I: Inspector>(words: &[u32], frame: Frame, n: u32, inspector: &mut I) -> bool
+fn show<I: Inspector>(words: &[u32], frame: Frame, n: u32, inspector: &mut I) -> Result<(), Full>
     requires { frame.address + n ≤ length words.now }
     ensures { Visited (I.Inspector.step inspector.old (visit_of frame.code frame.address (between frame.address (frame.address + n) words.now))) inspector.old inspector.new result }
 {
@@ -106,12 +106,12 @@ fn turn<S: TemplateSource, I: Inspector>(
     let frame = pending[top];
     let n = words_of(source, frame.code);
     if frame.word > n {
-        if show(words, frame, n, inspector) {
-            return Next::Visited;
-        }
-        return Next::Stop(Ending::Full {
-            address: frame.address,
-        });
+        return match show(words, frame, n, inspector) {
+            Ok(()) => Next::Visited,
+            Err(Full) => Next::Stop(Ending::Full {
+                address: frame.address,
+            }),
+        };
     }
     pending[top].word = frame.word + 1;
     match child_of(words, source, frame) {

@@ -11,17 +11,17 @@ show-requires g c =
     let r = top_ready t (length c.args.words.now) c.args.marks.now c.args.pending.now c.args.depth c.requires.deep c.requires.good in
     omega (arith, r.inside)
 
-pub returns-then-show : goal.returns-then-show
-returns-then-show g c =
+pub returns-in-Ok : goal.returns-in-Ok
+returns-in-Ok g c =
     let t = g.S.TemplateSource.meaning c.args.source.now in
     let laws = g.S.TemplateSource.laws c.args.source.now in
-    turn_visited t laws c.args.words.now g.I.Inspector.step c.args.marks.now c.args.pending.now c.args.depth c.args.inspector.now c.requires.deep c.requires.good c.show.new.inspector (omega arith) (made _ _ _ _ (rw c.words_of-n.ensures at c.show.ensures) c.if-show.true)
+    turn_visited t laws c.args.words.now g.I.Inspector.step c.args.marks.now c.args.pending.now c.args.depth c.args.inspector.now c.requires.deep c.requires.good c.show.new.inspector (omega arith) (made _ _ _ _ (rw c.words_of-n.ensures at c.in-Ok.ensures))
 
-pub returns-then-frame-n : goal.returns-then-frame-n
-returns-then-frame-n g c =
+pub returns-in-Err : goal.returns-in-Err
+returns-in-Err g c =
     let t = g.S.TemplateSource.meaning c.args.source.now in
     let laws = g.S.TemplateSource.laws c.args.source.now in
-    let no = not_made _ _ _ _ (rw c.words_of-n.ensures at c.show.ensures) c.if-show.false in
+    let no = not_made _ _ _ _ (rw c.words_of-n.ensures at c.in-Err.ensures) in
     turn_refused t laws c.args.words.now g.I.Inspector.step c.args.marks.now c.args.pending.now c.args.depth c.args.inspector.now c.requires.deep c.requires.good c.show.new.inspector no.1 (omega arith) no.0
 
 pub overflow_add-pending : goal.overflow_add-pending

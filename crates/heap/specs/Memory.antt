@@ -10,9 +10,13 @@ pub use Rattle.calls.specs.Rows.{row_1}
 abbrev pub new_words : ℕ → List ℕ
 new_words L = 1 ∷ (L - 1) * 65536 ∷ replicate (L - 2) 0
 
+-- the lent slice `after` is the slice `before`, whatever it holds
+abbrev pub Same : MutBor (List ℕ) → MutBor (List ℕ) → Type 0
+Same before after = after.ghost_name ≡ before.ghost_name
+
 -- the lent slice `after` is the slice `before`, and holds xs now
 abbrev pub Left : MutBor (List ℕ) → MutBor (List ℕ) → List ℕ → Type 0
-Left before after xs = (after.now ≡ xs) × (after.ghost_name ≡ before.ghost_name)
+Left before after xs = (after.now ≡ xs) × Same before after
 
 -- a heap is opened on the lent memory, its words written or left as they were; or the memory comes back as it was
 abbrev pub Opens : (ℕ → List ℕ → List ℕ) → Memory → Result Open (Memory × Refusal) → Type 0

@@ -6,7 +6,7 @@ pub struct Hold {
 }
 
 impl Hold {
-    // Hands the hold on to the calls by hold number; it stays held.
+    // Hands the hold on to the calls by hold number; it stays held. No `From`: that a hold is handed on is to be said by name.
     pub fn into_number(self) -> u32
         ensures { result ≡ self.number }
     {

@@ -1,7 +1,7 @@
-ghost use Rattle.std.specs.Prelude.{◌≡◌, length, replicate};
+ghost use Rattle.std.specs.Prelude.{◌≡◌, length, drop, replicate};
+ghost use Rattle.scan.specs.Marks.{unmarked};
 ghost use Rattle.heap.specs.Memory.{Left};
 ghost use Rattle.heap.specs.States.{MarksHeap, SweepsHeap};
-ghost use Rattle.sweeping.specs.Sweeping.{Surveys};
 
 use crate::memory::{Marked, Open};
 use calls::holds::Holds;
@@ -32,10 +32,10 @@ impl<'m> Open<'m> {
 
 impl<'m> Marked<'m> {
     // How many words a sweep would free.
-    pub fn survey(&self) -> Result<u32, Refusal>
-        ensures { Surveys (length self.now.words.now) self.now.marks.now result }
+    pub fn survey(&self) -> u32
+        ensures { result ≡ unmarked (drop 1 self.now.marks.now) }
     {
-        survey(self.words.len(), self.marks)
+        survey(self.words.len(), self.marks).unwrap()
     }
 
     // The open heap again, with no mark and with nothing freed.
@@ -48,13 +48,11 @@ impl<'m> Marked<'m> {
     }
 
     // Frees every unmarked word, and answers how many they are.
-    pub fn sweep(self) -> Result<(Open<'m>, u32), (Marked<'m>, Refusal)>
+    pub fn sweep(self) -> (Open<'m>, u32)
         ensures { SweepsHeap self.entry result }
     {
         let Marked { words, marks } = self;
-        match sweep(words, marks) {
-            Ok(freed) => Ok((Open { words, marks }, freed)),
-            Err(refusal) => Err((Marked { words, marks }, refusal)),
-        }
+        let freed = sweep(words, marks).unwrap();
+        (Open { words, marks }, freed)
     }
 }

@@ -1,3 +1,6 @@
+ghost use Rattle.std.specs.Prelude.{length};
+ghost use Rattle.heap.specs.Sizes.{HeapSize};
+
 // Words and marks that a caller lends for a heap.
 #[derive(Drop)]
 pub struct Memory<'m> {
@@ -10,11 +13,13 @@ pub struct Memory<'m> {
 pub struct Open<'m> {
     pub(crate) words: &'m mut [u32],
     pub(crate) marks: &'m mut [u8],
+    pub ghost sized: { HeapSize (length words.now) (length marks.now) },
 }
 
-// A heap whose reached cells are marked. Only `Open::mark` gives one.
+// A heap whose reached cells are marked. Only `Open::mark` gives one. It shares no method with `Open`, so the two are not one type.
 #[derive(Drop)]
 pub struct Marked<'m> {
     pub(crate) words: &'m mut [u32],
     pub(crate) marks: &'m mut [u8],
+    pub ghost sized: { HeapSize (length words.now) (length marks.now) },
 }

@@ -1,4 +1,4 @@
-ghost use Rattle.std.specs.Prelude.{◌≡◌, length};
+ghost use Rattle.std.specs.Prelude.{◌≡◌, ◌≤◌, length};
 ghost use Rattle.calls.specs.Calls.{Answers};
 ghost use Rattle.calls.specs.Rows.{row_1};
 ghost use Rattle.heap.specs.Memory.{new_words, Left, Opens};
@@ -10,14 +10,23 @@ use refusals::refusal::Refusal;
 // One unit of SIZE in the first word of a free run.
 const SIZE_UNIT: u32 = 65536;
 
+// Makes the words those of a new heap.
+fn write_new(words: &mut [u32])
+    requires some { 2 ≤ length words.old }
+    requires long { length words.old ≤ 65536 }
+    ensures { words.new ≡ new_words (length words.old) }
+{
+    words.fill(0);
+    words[0] = 1;
+    words[1] = (words.len() as u32 - 1) * SIZE_UNIT;
+}
+
 // Makes the words those of a new heap, over as many marks.
 pub fn format_words(words: &mut [u32], marks: usize) -> Result<(), Refusal>
     ensures { Answers (row_1 (length words.old) marks) (words.new ≡ words.old) (λ _. words.new ≡ new_words (length words.old)) result }
 {
     check_memory(words.len(), marks)?;
-    words.fill(0);
-    words[0] = 1;
-    words[1] = (words.len() as u32 - 1) * SIZE_UNIT;
+    write_new(words);
     Ok(())
 }
 
@@ -26,27 +35,20 @@ impl<'m> Open<'m> {
     pub fn adopt(memory: Memory<'m>) -> Result<Open<'m>, (Memory<'m>, Refusal)>
         ensures { Opens (λ L w. w) memory.entry result }
     {
-        match check_memory(memory.words.len(), memory.marks.len()) {
-            Ok(()) => {
-                let Memory { words, marks } = memory;
-                Ok(Open { words, marks })
-            }
-            Err(refusal) => Err((memory, refusal)),
+        if let Err(refusal) = check_memory(memory.words.len(), memory.marks.len()) {
+            return Err((memory, refusal));
         }
+        let Memory { words, marks } = memory;
+        Ok(Open { words, marks })
     }
 
     // A new heap, all of whose words but word 0 are one free run. The marks stay as they are.
     pub fn new(memory: Memory<'m>) -> Result<Open<'m>, (Memory<'m>, Refusal)>
         ensures { Opens (λ L w. new_words L) memory.entry result }
     {
-        let marks = memory.marks.len();
-        match format_words(memory.words, marks) {
-            Ok(()) => {
-                let Memory { words, marks } = memory;
-                Ok(Open { words, marks })
-            }
-            Err(refusal) => Err((memory, refusal)),
-        }
+        let Open { words, marks } = Open::adopt(memory)?;
+        write_new(words);
+        Ok(Open { words, marks })
     }
 
     // The memory, taken back.

@@ -1,6 +1,6 @@
 ghost use Rattle.std.specs.Prelude.{◌≡◌, length};
 ghost use Rattle.calls.specs.Calls.{Notes, Copies, Tells, Looks, Sets, Puts, Fetches};
-ghost use Rattle.heap.specs.Memory.{Left};
+ghost use Rattle.heap.specs.Memory.{Same, Left};
 ghost use Rattle.heap.specs.Tokens.{Gives, Spends};
 ghost use Rattle.making.specs.Makes.{Makes};
 ghost use Rattle.tracing.specs.Traces.{Traces};
@@ -17,22 +17,6 @@ use scan::inspector::Inspector;
 use sources::source::TemplateSource;
 use tracing::by_number::trace;
 
-// A trace by hold number over words that are lent to be written: they stay as they are.
-fn trace_lent<S: TemplateSource, I: Inspector>(
-    words: &mut [u32],
-    marks: &mut [u8],
-    pending: &mut [Frame],
-    holds: &Holds,
-    source: &S,
-    inspector: &mut I,
-    hold: u32,
-) -> Result<u32, Refusal>
-    ensures marks { Traces (S.TemplateSource.meaning source.now) words.old I.Inspector.step holds.now.records hold (length pending.old) marks.old inspector.old marks.new inspector.new result }
-    ensures words { words.new ≡ words.old }
-{
-    trace(words, marks, pending, holds, source, inspector, hold)
-}
-
 // The calls of an open heap, by hold. Each is the call by hold number of the same name.
 impl<'m> Open<'m> {
     pub fn take(&self, holds: &mut Holds, number: u32) -> Result<Hold, Refusal>
@@ -45,13 +29,11 @@ impl<'m> Open<'m> {
     pub fn release(&self, holds: &mut Holds, hold: Hold) -> Result<(), (Hold, Refusal)>
         ensures { Spends holds.old.records hold holds.new.records result }
     {
-        match by_number::release(holds, hold.number) {
-            Ok(()) => {
-                let Hold { number: _ } = hold;
-                Ok(())
-            }
-            Err(refusal) => Err((hold, refusal)),
+        if let Err(refusal) = by_number::release(holds, hold.number) {
+            return Err((hold, refusal));
         }
+        let Hold { number: _ } = hold;
+        Ok(())
     }
 
     pub fn note<S: TemplateSource>(
@@ -100,7 +82,7 @@ impl<'m> Open<'m> {
         number: u32,
     ) -> Result<(), Refusal>
         ensures words { Sets (S.TemplateSource.meaning source.now) self.old.words.now holds.now.records hold.now.number word number self.new.words.now result }
-        ensures same { self.new.words.ghost_name ≡ self.old.words.ghost_name }
+        ensures same { Same self.old.words self.new.words }
         ensures marks { Left self.old.marks self.new.marks self.old.marks.now }
     {
         by_number::set(self.words, holds, source, hold.number, word, number)
@@ -115,7 +97,7 @@ impl<'m> Open<'m> {
         from: &Hold,
     ) -> Result<(), Refusal>
         ensures words { Puts (S.TemplateSource.meaning source.now) self.old.words.now holds.now.records hold.now.number word «from».now.number self.new.words.now result }
-        ensures same { self.new.words.ghost_name ≡ self.old.words.ghost_name }
+        ensures same { Same self.old.words self.new.words }
         ensures marks { Left self.old.marks self.new.marks self.old.marks.now }
     {
         by_number::put(self.words, holds, source, hold.number, word, from.number)
@@ -144,12 +126,18 @@ impl<'m> Open<'m> {
         code: u32,
     ) -> Result<u32, Refusal>
         ensures made { Makes (S.TemplateSource.meaning source.now) self.old.words.now holds.old.records hold.now.number code (length pending.old) self.old.marks.now self.new.words.now holds.new.records self.new.marks.now result }
-        ensures words { self.new.words.ghost_name ≡ self.old.words.ghost_name }
-        ensures marks { self.new.marks.ghost_name ≡ self.old.marks.ghost_name }
+        ensures words { Same self.old.words self.new.words }
+        ensures marks { Same self.old.marks self.new.marks }
     {
-        let words = &mut *self.words;
-        let marks = &mut *self.marks;
-        make(words, marks, pending, holds, source, hold.number, code)
+        make(
+            self.words,
+            self.marks,
+            pending,
+            holds,
+            source,
+            hold.number,
+            code,
+        )
     }
 
     // The marks are all zero after it, unless the memory is refused.
@@ -162,11 +150,12 @@ impl<'m> Open<'m> {
         hold: &Hold,
     ) -> Result<u32, Refusal>
         ensures marks { Traces (S.TemplateSource.meaning source.now) self.old.words.now I.Inspector.step holds.now.records hold.now.number (length pending.old) self.old.marks.now inspector.old self.new.marks.now inspector.new result }
-        ensures same { self.new.marks.ghost_name ≡ self.old.marks.ghost_name }
+        ensures same { Same self.old.marks self.new.marks }
         ensures words { Left self.old.words self.new.words self.old.words.now }
     {
+        // Lent straight from the field, the words would not be known to be the same afterwards.
         let words = &mut *self.words;
         let marks = &mut *self.marks;
-        trace_lent(words, marks, pending, holds, source, inspector, hold.number)
+        trace(words, marks, pending, holds, source, inspector, hold.number)
     }
 }

@@ -60,12 +60,10 @@ mod tests {
         Holds::adopt(records)
     }
 
-    // The number and the place of a refusal; 0 and 0 where there is none.
-    fn told<T: Drop>(r: Result<T, Refusal>) -> (u32, u64) {
-        match r {
-            Ok(_) => (0, 0),
-            Err(f) => (f.number(), f.place()),
-        }
+    // The number and the place of a refusal, where there is one.
+    fn told<T: Drop>(answer: Result<T, Refusal>) -> Option<(u32, u64)> {
+        let refusal = answer.err()?;
+        Some((refusal.number(), refusal.place()))
     }
 
     #[test]
@@ -87,7 +85,7 @@ mod tests {
         ] {
             assert_eq!(rt;
                 told(by_number::look(&WORDS, &holds, &table, hold, word)),
-                (number, place)
+                Some((number, place))
             );
         }
         assert_eq!(rt; by_number::look(&WORDS, &holds, &table, 0, 1)?, 40);
@@ -111,7 +109,7 @@ mod tests {
         ] {
             assert_eq!(rt;
                 told(by_number::fetch(&WORDS, &mut holds, &table, hold, word, to)),
-                (number, place)
+                Some((number, place))
             );
         }
         assert_eq!(rt; by_number::tell(&holds, 3)?, Content::Nothing);
@@ -128,7 +126,7 @@ mod tests {
         ] {
             assert_eq!(rt;
                 told(by_number::put(words, holds, table, 0, word, from)),
-                (number, place)
+                Some((number, place))
             );
         }
     }
@@ -152,7 +150,7 @@ mod tests {
         words: &[u32],
         table: &Table,
         buffer: &mut [u8],
-        answer: (u32, u64),
+        refused: Option<(u32, u64)>,
         text: &[u8],
     ) {
         let blank = Frame {
@@ -172,7 +170,7 @@ mod tests {
             &mut lister,
             0,
         );
-        assert_eq!(rt; told(traced), answer);
+        assert_eq!(rt; told(traced), refused);
         assert!(rt; lister.written() == text);
         assert_eq!(rt; marks, [0; 16]);
     }
@@ -187,11 +185,18 @@ mod tests {
             &LINKED,
             &table,
             &mut long,
-            (0, 0),
+            None,
             b"6 3 5 8\n1 9 40 0 6 3\n",
         );
-        lists(&rt, &LINKED, &table, &mut short, (12, 9), b"6 3 5 8\n");
-        lists(&rt, &WORDS, &table, &mut long, (10, 10), b"");
+        lists(
+            &rt,
+            &LINKED,
+            &table,
+            &mut short,
+            Some((12, 9)),
+            b"6 3 5 8\n",
+        );
+        lists(&rt, &WORDS, &table, &mut long, Some((10, 10)), b"");
         Ok(())
     }
 
@@ -204,9 +209,8 @@ mod tests {
     ) -> Result<u32, Fail> {
         let table = Table::new(heap, &TABLE)?;
         let holds = foreign();
-        let mut open = match Open::adopt(Memory { words, marks }) {
-            Ok(open) => open,
-            Err(_) => return Err(Fail::new("refused")),
+        let Ok(mut open) = Open::adopt(Memory { words, marks }) else {
+            return Err(Fail::new("refused"));
         };
         let mut free = Holds::new();
         let hold = open.take(&mut free, 0)?;
@@ -215,8 +219,8 @@ mod tests {
         if let Err((hold, _)) = open.release(&mut free, hold) {
             assert_eq!(rt; hold.into_number(), 64);
         }
-        assert_eq!(rt; set, (0, 0));
-        assert_eq!(rt; looked, (6, 0));
+        assert_eq!(rt; set, None);
+        assert_eq!(rt; looked, Some((6, 0)));
         let memory = open.close();
         assert!(rt; memory.words.len() == 16);
         Ok(memory.words[9])

@@ -1,10 +1,11 @@
 -- One text after another.
-use Rattle.std.proofs.Common.{◌≡◌, ℕ, ◌+◌, ◌<◌, ◌≤◌, Bool, true, false, cond, leb, List, [], ◌∷◌, ◌++◌, length, get_or, take, drop, Some, None, decimal, Option, sym, refl, ap, ◌∙◌, subst, append_assoc, zero-add, arith, length-append, length-drop, take-append-drop, length-take-le, leb-false, leb-true}
+use Rattle.std.proofs.Common.{◌≡◌, ℕ, ◌+◌, ◌<◌, ◌≤◌, Bool, true, false, cond, leb, List, [], ◌∷◌, ◌++◌, length, get_or, take, drop, Some, None, Ok, Err, decimal, Option, Result, sym, refl, ap, ◌∙◌, subst, append_assoc, zero-add, arith, length-append, length-drop, take-append-drop, length-take-le, leb-false, leb-true}
 use lib.Seq.{drop-append-add}
 use Rattle.std.proofs.lemmas.List.{take_at, drop-drop, drop_more}
 use Rattle.std.specs.List.{flat_map}
 use Rattle.std.specs.Option.{SomeIff}
 use Rattle.scan.specs.Visits.{Visited}
+use Rattle.scan.specs.declared.inspector.Full.{Full}
 use Rattle.inspectors.specs.declared.lister.Lister.{Lister}
 use Rattle.inspectors.specs.Lines.{Room, appended, with_now, spaced, line, Lists}
 
@@ -76,17 +77,22 @@ front_room s a b h = omega (arith, length-append a b)
 
 -- a visit leaves the lister with the line, or as it was
 module _ (s t : Lister) (text : List ℕ) where
-  pub visited_name : (b : Bool) (r : Bool) → Visited (cond b (Some (appended s text)) None) s t r → s.out.ghost_name ≡ t.out.ghost_name
+  pub visited_name : (b : Bool) (r : Result (Unit {0}) Full) → Visited (cond b (Some (appended s text)) None) s t r → s.out.ghost_name ≡ t.out.ghost_name
   unfolding appended
   visited_name true r v = ap (λ (x : Lister). x.out.ghost_name) (sym v.1)
   visited_name false r v = ap (λ (x : Lister). x.out.ghost_name) (sym v.1)
 
-  pub visited_lists : (b : Bool) (r : Bool) → b ≡ leb (s.used + length text) (length s.out.now) → s.used ≡ 0 → Visited (cond b (Some (appended s text)) None) s t r → Lists text s.out.now t.out.now t.used
+  pub visited_ok : (b : Bool) (u : Unit {0}) → b ≡ leb (s.used + length text) (length s.out.now) → s.used ≡ 0 → Visited (cond b (Some (appended s text)) None) s t (Ok u) → Lists text s.out.now t.out.now (Some t.used)
   unfolding appended
-  visited_lists true r e z v =
+  visited_ok true u e z v =
       let fits : s.used + length text ≤ length s.out.now = leb-true _ _ (sym e) in
       let is = ap (λ (x : Lister). x.out.now) v.1 ∙ ap (λ n. take n s.out.now ++ (text ++ drop (n + length text) s.out.now)) z ∙ ap (λ n. text ++ drop n s.out.now) (zero-add (length text)) in
-      (λ h. (is, ap (λ (x : Lister). x.used) v.1 ∙ omega arith), λ h. absurd (omega arith))
-  visited_lists false r e z v =
+      let used : t.used ≡ length text = ap (λ (x : Lister). x.used) v.1 ∙ omega arith in
+      (λ h. (is, ap Some used), λ h. absurd (omega arith))
+  visited_ok false u e z v = absurd (let y : ◌≡◌ {A = ℕ} 0 1 = cc (v.0) in omega arith)
+
+  pub visited_err : (b : Bool) (f : Full) → b ≡ leb (s.used + length text) (length s.out.now) → s.used ≡ 0 → Visited (cond b (Some (appended s text)) None) s t (Err f) → Lists text s.out.now t.out.now None
+  visited_err true f e z v = absurd (let y : ◌≡◌ {A = ℕ} 0 1 = cc in omega arith)
+  visited_err false f e z v =
       let full : length s.out.now < s.used + length text = leb-false _ _ (sym e) in
-      (λ h. absurd (omega arith), λ h. (ap (λ (x : Lister). x.out.now) v.1, ap (λ (x : Lister). x.used) v.1 ∙ z))
+      (λ h. absurd (omega arith), λ h. (ap (λ (x : Lister). x.out.now) v.1, refl))

@@ -1,7 +1,6 @@
 pub mod Made
 pub mod Places
 pub mod Counts
-pub mod Digits
 pub mod Appends
 pub mod Listings
 pub mod Followed

@@ -1,32 +1,54 @@
 -- The search for a row, and a visit's two answers.
-use Rattle.std.proofs.Common.{◌≡◌, ℕ, suc, ◌+◌, ◌^◌, ◌<◌, ◌≤◌, Bool, true, false, cond, ◌⊎◌, List, length, get_or, drop, set, sym, ap, ◌∙◌, subst, add-zero, arith}
-use Rattle.std.proofs.lemmas.List.{drop_more}
+use Rattle.std.proofs.Common.{◌≡◌, ℕ, ◌+◌, ◌^◌, ◌<◌, ◌≤◌, Bool, true, false, cond, ltb, suc, ◌⊎◌, List, length, get_or, set, Some, None, Ok, Option, Result, IsErr, position, sym, refl, ap, ◌∙◌, subst, arith}
+use Rattle.std.specs.List.{position_or_len}
+use Rattle.std.proofs.lemmas.List.Recursion.{is_position_or_len}
 use Rattle.std.proofs.lemmas.Bool.Decides.{nat_tests}
 use Rattle.scan.specs.Visits.{Visited}
+use Rattle.scan.specs.declared.inspector.Full.{Full}
 use Rattle.inspectors.specs.declared.tally.Tally.{Tally}
 use Rattle.inspectors.specs.Tallies.{serves, place, blank, takes, counted, tally_at}
 use Rattle.inspectors.specs.declared.tally.Row.{Row}
 use Rattle.inspectors.proofs.Made.{made, skipped}
 
-module _ (code : ℕ) (rows : List Row) (i : ℕ) (d : Row) (within : i < length rows) where
-  next : (b : Bool) → b ≡ serves code (get_or rows i d) → place code (drop i rows) ≡ cond b 0 (suc (place code (drop (i + 1) rows)))
-  next b e = ap (place code) (drop_more rows i d within) ∙ ap (λ t. cond t 0 (suc (place code (drop (i + 1) rows)))) (sym e)
+one_more : (n : ℕ) → 1 + n ≡ suc n
+one_more n = omega arith
 
-  pub here : (b : Bool) → b ≡ serves code (get_or rows i d) → b ≡ true → i + place code (drop i rows) ≡ i
-  here b e t = ap (λ n. i + n) (next b e ∙ ap (λ x. cond x 0 (suc (place code (drop (i + 1) rows)))) t) ∙ add-zero i
+is_place : (code : ℕ) (rows : List Row) → place code rows ≡ position_or_len (serves code) rows
+is_place code rows = is_position_or_len (place code) (serves code) refl (λ r rs. ap (λ n. cond (serves code r) 0 n) (sym (one_more (place code rs)))) rows
 
-  pub later : (b : Bool) → b ≡ serves code (get_or rows i d) → b ≡ false → i + place code (drop i rows) ≡ i + 1 + place code (drop (i + 1) rows)
-  later b e t = let n = next b e ∙ ap (λ x. cond x 0 (suc (place code (drop (i + 1) rows)))) t in omega (arith, n)
+found : (k L i : ℕ) → cond (ltb k L) (Some k) None ≡ Some i → (i ≡ k) × (k < L)
+found k L i e = (grind (arith, nat_tests), grind (arith, nat_tests))
+
+absent : (k L : ℕ) → ◌≡◌ {A = Option ℕ} (cond (ltb k L) (Some k) None) None → L ≤ k
+absent k L e = grind (arith, nat_tests)
+
+module _ (code : ℕ) (rows : List Row) where
+  pub placed : (i : ℕ) → position (serves code) rows ≡ Some i → (i ≡ place code rows) × (i < length rows)
+  placed i e = let f = found _ _ i e in let p = is_place code rows in (omega arith, omega arith)
+
+  pub no_place : position (serves code) rows ≡ None → length rows ≤ place code rows
+  no_place e = let f = absent _ _ e in let p = is_place code rows in omega arith
 
 module _ (rows : List Row) (i n : ℕ) where
-  pub takes_yes : i < length rows → (get_or rows i blank).cells + 1 < 2 ^ 32 → (get_or rows i blank).words + n < 2 ^ 32 → takes rows i n ≡ true
-  takes_yes h k l = grind (arith, nat_tests)
+  -- both counts of row i stay below 2^32
+  abbrev pub Below : Type 0
+  Below = ((get_or rows i blank).cells + 1 < 2 ^ 32) × ((get_or rows i blank).words + n < 2 ^ 32)
 
-  pub takes_not : (length rows ≤ i) ⊎ ((2 ^ 32 ≤ (get_or rows i blank).cells + 1) ⊎ (2 ^ 32 ≤ (get_or rows i blank).words + n)) → takes rows i n ≡ false
-  takes_not h = grind (arith, nat_tests)
+  pub takes_yes : i < length rows → Below → takes rows i n ≡ true
+  takes_yes h below = grind (arith, nat_tests, below.0, below.1)
 
-pub made_at : (s t : Tally) (i j code n : ℕ) → i ≡ j → takes s.rows i n ≡ true → t ≡ record { rows = set s.rows i (counted code n (get_or s.rows i blank)) } → Visited (tally_at s j code n) s t true
-made_at s t i j code n e h f = subst (λ k. Visited (tally_at s k code n) s t true) e (made _ s _ t h f)
+  pub takes_past : length rows ≤ i → takes rows i n ≡ false
+  takes_past h = grind (arith, nat_tests)
 
-pub skipped_at : (s : Tally) (i j code n : ℕ) → i ≡ j → takes s.rows i n ≡ false → Visited (tally_at s j code n) s s false
-skipped_at s i j code n e h = subst (λ k. Visited (tally_at s k code n) s s false) e (skipped _ s _ h)
+  pub takes_not : (Below → ⊥) → takes rows i n ≡ false
+  takes_not past = by_test _ refl
+    where
+      by_test : (b : Bool) → takes rows i n ≡ b → takes rows i n ≡ false
+      by_test true e = absurd (past (grind (arith, nat_tests), grind (arith, nat_tests)))
+      by_test false e = e
+
+pub made_at : (s t : Tally) (i j code n : ℕ) → i ≡ j → takes s.rows i n ≡ true → t ≡ record { rows = set s.rows i (counted code n (get_or s.rows i blank)) } → Visited (tally_at s j code n) s t (Ok tt)
+made_at s t i j code n e h f = subst (λ k. Visited (tally_at s k code n) s t (Ok tt)) e (made _ s _ t h f)
+
+pub skipped_at : (s : Tally) (i j code n : ℕ) (r : Result (Unit {0}) Full) → IsErr r → i ≡ j → takes s.rows i n ≡ false → Visited (tally_at s j code n) s s r
+skipped_at s i j code n r err e h = subst (λ k. Visited (tally_at s k code n) s s r) e (skipped _ s _ r err h)

@@ -1,5 +1,5 @@
 -- The text of a line, and a lister that holds more text.
-use Rattle.std.specs.Prelude.{◌≡◌, ℕ, ◌+◌, ◌<◌, ◌≤◌, List, [], ◌∷◌, ◌++◌, length, take, drop, decimal}
+use Rattle.std.specs.Prelude.{◌≡◌, ℕ, ◌+◌, ◌<◌, ◌≤◌, List, [], ◌∷◌, ◌++◌, length, take, drop, Some, None, Option, decimal}
 use Rattle.std.specs.Borrow.{MutBor}
 use Rattle.std.specs.List.{flat_map}
 use Rattle.inspectors.specs.declared.lister.Lister.{Lister}
@@ -25,5 +25,5 @@ unfoldable pub appended : Lister → List ℕ → Lister
 appended s bs = record { out = with_now s.out (take s.used s.out.now ++ (bs ++ drop (s.used + length bs) s.out.now)); used = s.used + length bs }
 
 -- what a buffer holds after a line, if there is room for it, and how much of it
-abbrev pub Lists : List ℕ → List ℕ → List ℕ → ℕ → Type 0
-Lists text was is n = (length text ≤ length was → (is ≡ text ++ drop (length text) was) × (n ≡ length text)) × (length was < length text → (is ≡ was) × (n ≡ 0))
+abbrev pub Lists : List ℕ → List ℕ → List ℕ → Option ℕ → Type 0
+Lists text was is r = (length text ≤ length was → (is ≡ text ++ drop (length text) was) × (r ≡ Some (length text))) × (length was < length text → (is ≡ was) × (r ≡ None))

@@ -4,39 +4,22 @@ ghost use Rattle.std.specs.Option.{SomeIff};
 ghost use Rattle.inspectors.specs.Lines.{Room, appended, line, spaced, Lists};
 ghost use Rattle.inspectors.specs.Listings.{Writes, lister_step, unwritten, written};
 
-use scan::inspector::Inspector;
+use itoa::Buffer;
+use scan::inspector::{Full, Inspector};
 
 // Writes a line for each cell into a lent buffer: the code, the address and the words in decimal, with a space between any two.
+// The buffer is the caller's and of any length, so how much of it is used stands beside it.
 #[derive(Drop)]
 pub struct Lister<'b> {
     out: &'b mut [u8],
     used: usize,
 }
 
-// Puts n's digits at the end of `out`, and answers where they start.
-fn spell(n: u32, out: &mut [u8; 10]) -> usize
-    ensures bound { result ≤ 10 }
-    ensures value { drop result out.new ≡ decimal n }
-    ensures len { result + length (decimal n) ≡ 10 }
-{
-    let mut i = 10;
-    let mut rest = n;
-    while rest >= 10 {
-        i -= 1;
-        out[i] = b'0' + (rest % 10) as u8;
-        rest /= 10;
-    }
-    i -= 1;
-    out[i] = b'0' + rest as u8;
-    i
-}
-
 // How many digits n has.
 fn width(n: u32) -> usize
     ensures { (result ≡ length (decimal n)) × (result ≤ 10) }
 {
-    let mut digits = [0; 10];
-    10 - spell(n, &mut digits)
+    Buffer::new().format(n).len()
 }
 
 // What is left of so much room after a line, if the line fits.
@@ -85,9 +68,7 @@ impl<'b> Lister<'b> {
         requires { Room self.old (decimal n) }
         ensures { self.new ≡ appended self.old (decimal n) }
     {
-        let mut digits = [0; 10];
-        let start = spell(n, &mut digits);
-        self.put(&digits[start..]);
+        self.put(Buffer::new().format(n).as_bytes());
     }
 
     // Writes a space and n.
@@ -127,15 +108,11 @@ impl<'b> Inspector for Lister<'b> {
 
     ghost reported = { λ s. s.used };
 
-    fn visit(&mut self, code: u32, address: u32, words: &[u32]) -> bool {
+    fn visit(&mut self, code: u32, address: u32, words: &[u32]) -> Result<(), Full> {
         let room = self.out.len().saturating_sub(self.used);
-        match room_after(room, code, address, words) {
-            None => false,
-            Some(_) => {
-                self.put_line(code, address, words);
-                true
-            }
-        }
+        room_after(room, code, address, words).ok_or(Full)?;
+        self.put_line(code, address, words);
+        Ok(())
     }
 
     fn report(&self) -> usize {
@@ -143,11 +120,11 @@ impl<'b> Inspector for Lister<'b> {
     }
 }
 
-// Lists one cell at the start of a buffer, and answers how many bytes its line has, or 0 where it does not fit.
-pub fn list_one(buffer: &mut [u8], code: u32, address: u32, words: &[u32]) -> usize
+// Lists one cell at the start of a buffer, and answers how many bytes its line has, or none where it does not fit.
+pub fn list_one(buffer: &mut [u8], code: u32, address: u32, words: &[u32]) -> Option<usize>
     ensures { Lists (line code address words.now) buffer.old buffer.new result }
 {
     let mut lister = Lister::new(buffer);
-    let _ = lister.visit(code, address, words);
-    lister.report()
+    lister.visit(code, address, words).ok()?;
+    Some(lister.report())
 }

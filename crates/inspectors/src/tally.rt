@@ -1,14 +1,16 @@
-ghost use Rattle.std.specs.Prelude.{◌≡◌, ◌≤◌, length};
+ghost use Rattle.std.specs.Prelude.{◌≡◌, ◌+◌, ◌^◌, ◌<◌, position};
+ghost use Rattle.std.specs.Option.{SomeIff};
 ghost use Rattle.inspectors.specs.Counts.{Counts};
-ghost use Rattle.inspectors.specs.Tallies.{empty, place, serves, tally_step};
+ghost use Rattle.inspectors.specs.Tallies.{empty, serves, counted, tally_step};
 
-use scan::inspector::Inspector;
+use scan::inspector::{Full, Inspector};
 
 // How many types a tally counts.
 pub const TYPES: usize = 32;
 
-// How many cells of a type there are, and how many words they have; no cells in a row that is not in use.
-#[derive(Clone, Copy)]
+// How many cells of a type there are, and how many words they have. A row that is not in use has no cells, and is no `None`:
+// so a new type and a known one are counted in one way.
+#[derive(Clone, Copy, PartialEq, Eq, Default, Debug)]
 pub struct Row {
     pub code: u32,
     pub cells: u32,
@@ -16,7 +18,7 @@ pub struct Row {
 }
 
 // Counts cells and words by type.
-#[derive(Clone, Copy)]
+#[derive(Clone, Copy, PartialEq, Eq, Debug)]
 pub struct Tally {
     rows: [Row; TYPES],
 }
@@ -26,34 +28,37 @@ impl Tally {
         ensures value { result ≡ empty }
         ensures counts { Counts result }
     {
-        let none = Row {
-            code: 0,
-            cells: 0,
-            words: 0,
-        };
         Tally {
-            rows: [none; TYPES],
+            rows: [Row::default(); TYPES],
         }
     }
 }
 
-// Whether the row counts the code, or nothing yet.
-fn serves(row: Row, code: u32) -> bool
-    ensures { result ≡ serves code row }
-{
-    row.code == code || row.cells == 0
+impl Row {
+    // Whether the row counts the code, or nothing yet.
+    fn serves(&self, code: u32) -> bool
+        ensures { result ≡ serves code self.now }
+    {
+        self.code == code || self.cells == 0
+    }
+
+    // The row with one cell more, of so many words, where both counts stay below 2^32.
+    fn with_cell(self, code: u32, words: usize) -> Option<Row>
+        ensures { SomeIff result ((self.cells + 1 < 2 ^ 32) × (self.words + words < 2 ^ 32)) (counted code words self) }
+    {
+        Some(Row {
+            code,
+            cells: self.cells.checked_add(1)?,
+            words: self.words.checked_add(words.try_into().ok()?)?,
+        })
+    }
 }
 
-// The place of the code's row, or of the first that counts nothing yet, or past the end if there is neither.
-fn place(rows: &[Row], code: u32) -> usize
-    ensures { (result ≡ place code rows.now) × (result ≤ length rows.now) }
+// The place of the code's row, or of the first that counts nothing yet.
+fn place(rows: &[Row], code: u32) -> Option<usize>
+    ensures { result ≡ position (serves code) rows.now }
 {
-    for i in 0..rows.len() {
-        if serves(rows[i], code) {
-            return i;
-        }
-    }
-    rows.len()
+    rows.iter().position(|row| row.serves(code))
 }
 
 impl Inspector for Tally {
@@ -63,21 +68,10 @@ impl Inspector for Tally {
 
     ghost reported = { λ s. s.rows };
 
-    fn visit(&mut self, code: u32, _address: u32, words: &[u32]) -> bool {
-        let i = place(&self.rows, code);
-        if i == TYPES {
-            return false;
-        }
-        let row = self.rows[i];
-        if row.cells == u32::MAX || words.len() > (u32::MAX - row.words) as usize {
-            return false;
-        }
-        self.rows[i] = Row {
-            code,
-            cells: row.cells + 1,
-            words: row.words + words.len() as u32,
-        };
-        true
+    fn visit(&mut self, code: u32, _address: u32, words: &[u32]) -> Result<(), Full> {
+        let i = place(&self.rows, code).ok_or(Full)?;
+        self.rows[i] = self.rows[i].with_cell(code, words.len()).ok_or(Full)?;
+        Ok(())
     }
 
     fn report(&self) -> [Row; TYPES] {

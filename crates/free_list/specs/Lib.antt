@@ -1,3 +1,4 @@
 pub mod Free
+pub mod Walks
 pub mod Cells
 pub mod Taken

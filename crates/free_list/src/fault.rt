@@ -1,5 +1,5 @@
 // Why no cell can be taken: the words are no heap, a cell has words, or a link leads to no run.
-#[derive(Clone, Copy)]
+#[derive(Clone, Copy, PartialEq, Eq, Debug)]
 pub enum Fault {
     Length,
     Size,

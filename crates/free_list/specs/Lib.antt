@@ -2,3 +2,4 @@ pub mod Free
 pub mod Walks
 pub mod Cells
 pub mod Taken
+pub mod Faults

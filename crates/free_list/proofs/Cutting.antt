@@ -1,6 +1,9 @@
 -- The free list after a cell is cut from one of its runs.
-use Rattle.std.proofs.Common.{◌≡◌, ℕ, ◌+◌, ◌-◌, ◌<◌, ◌≤◌, ◌⊎◌, List, [], ◌∷◌, ◌++◌, length, get_or, set, sym, ap, ◌∙◌, subst, ⊎_elim, arith, rules}
-use Rattle.std.proofs.lemmas.List.{places, get_or-set_same, get_or-set_other, length-set}
+use Rattle.std.proofs.Common.{◌≡◌, ℕ, ◌+◌, ◌-◌, ◌<◌, ◌≤◌, ◌⊎◌, List, [], ◌∷◌, ◌++◌, length, replicate, get_or, set, sym, ap, ◌∙◌, subst, ⊎_elim, arith, rules}
+use Rattle.std.proofs.lemmas.List.{places, get_or-set_same, get_or-set_other, length-set, length-replicate}
+use Rattle.std.proofs.lemmas.List.Edits.{paste_all}
+use Rattle.std.proofs.lemmas.Slice.{put_mid-paste}
+use borrow.Rule.Slice.PartMut.{put_mid}
 use Rattle.free_list.specs.Free.{size_of, link_of, runWord, Run, span, Next, Ending, proper, broken, Ends, Free, Reach, FirstFit}
 use Rattle.free_list.specs.Cells.{zeroed, unlinked, shortened, Cut, ListAfter}
 use Rattle.free_list.proofs.Walk.{reach_free}
@@ -271,3 +274,10 @@ cut_part w u v p a s n x link some lk made wrote cleared =
       whole = λ same. absurd (some (omega arith));
       part = λ less. cleared ∙ ap (λ (y : List ℕ). zeroed y (a + (s - n)) n) (wrote ∙ ap (λ (y : ℕ). set w a y) x-is);
     }
+
+-- n zeros, written from `at` on
+pub filled : (w : List ℕ) (at n : ℕ) (ys : List ℕ) → ys ≡ replicate n 0 → put_mid at ((at + n) - at) w ys ≡ zeroed w at n
+filled w at n ys is =
+    let zeros : List ℕ = replicate n 0 in
+    let all : n ≡ length zeros = sym (length-replicate n 0) in
+    put_mid-paste at ((at + n) - at) w ys zeros n is (omega arith) all ∙ paste_all w at zeros n all

@@ -1,3 +1,5 @@
 pub mod Free
+pub mod Walks
 pub mod Cells
 pub mod Taken
+pub mod Faults

@@ -5,5 +5,5 @@ mod cut;
 pub mod fault;
 mod first_fit;
 pub mod halves;
-mod run;
+mod runs;
 pub mod take;

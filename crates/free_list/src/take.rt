@@ -4,19 +4,23 @@ use crate::cut::cut;
 use crate::fault::Fault;
 use crate::first_fit::first_fit;
 
+// The fewest and the most words of a heap.
+const FEWEST_WORDS: usize = 2;
+
+const MOST_WORDS: usize = 65536;
+
 // Takes a cell of `n` words from the first run that is long enough, all its words 0. Answers its address.
 pub fn take_cell(words: &mut [u32], n: u32) -> Result<Option<u32>, Fault>
     ensures { Taken words.old n words.new result }
 {
-    if words.len() < 2 || words.len() > 65536 {
+    if !(FEWEST_WORDS..=MOST_WORDS).contains(&words.len()) {
         return Err(Fault::Length);
     }
     if n == 0 {
         return Err(Fault::Size);
     }
-    match first_fit(words, n) {
-        Err(at) => Err(Fault::Broken(at)),
-        Ok(None) => Ok(None),
-        Ok(Some(found)) => Ok(Some(cut(words, found, n))),
-    }
+    let Some(found) = first_fit(words, n).map_err(Fault::Broken)? else {
+        return Ok(None);
+    };
+    Ok(Some(cut(words, found, n)))
 }

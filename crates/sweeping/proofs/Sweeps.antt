@@ -1,11 +1,11 @@
 -- A sweep from the last word down.
-use Rattle.std.proofs.Common.{◌≡◌, ℕ, ◌+◌, ◌-◌, ◌<◌, ◌≤◌, ◌⊎◌, List, [], ◌∷◌, length, get_or, drop, set, sym, refl, ap, ◌∙◌, subst, ⊎_elim, arith}
-use Rattle.std.proofs.lemmas.List.{get_or-set_same, get_or-set_other, length-set, drop_all}
-use Rattle.scan.specs.Marks.{IsMarked, unmarked}
+use Rattle.std.proofs.Common.{◌≡◌, ℕ, ◌+◌, ◌-◌, ◌<◌, ◌≤◌, ◌⊎◌, List, [], ◌∷◌, ◌++◌, length, get_or, take, set, sym, refl, ap, ◌∙◌, subst, ⊎_elim, arith}
+use Rattle.std.proofs.lemmas.List.{get_or-set_same, get_or-set_other, length-set, length-append, take-take, get_or-take}
+use Rattle.std.proofs.Math.Seq.{take-length, take-append_seam, get_or-append_seam}
+use Rattle.scan.specs.Marks.{IsMarked}
 use Rattle.free_list.specs.Free.{size_of, link_of, runWord, Run, span, proper, Free}
 use Rattle.sweeping.specs.Sweeping.{IsFree, Stretch, Stretches, NoStart, Swept, Closed}
 use Rattle.free_list.proofs.Cutting.{link_made, size_made, made_of}
-use Rattle.sweeping.proofs.Counts.{count_marked, count_unmarked_lem}
 
 -- the runs from the one at h on, all of them from word e on
 abbrev pub Chain : List ℕ → ℕ → ℕ → List Run → Type 0
@@ -113,16 +113,14 @@ partly_made w₀ m w next a s some stretch lm lw d =
     }
 
 -- the whole state of a sweep that has come down to word a, with a stretch of s words open there
-pub record State (w₀ m w : List ℕ) (next a s free : ℕ) : Type 0 where
+pub record State (w₀ m w : List ℕ) (next a s : ℕ) : Type 0 where
   pub swept : Partly w₀ m w next (a + s)
   pub loose : (k : ℕ) → a ≤ k → k < a + s → IsFree m k
   pub edge : a + s < length m → IsMarked m (a + s)
   pub there : 1 ≤ a
   pub within : a + s ≤ length m
-  pub few : free + a ≤ length m
-  pub count : free ≡ unmarked (drop a m)
 
-pub state_start : (w m : List ℕ) (n : ℕ) → n ≡ length w → length m ≡ length w → 2 ≤ length w → State w m w 0 n 0 0
+pub state_start : (w m : List ℕ) (n : ℕ) → n ≡ length w → length m ≡ length w → 2 ≤ length w → State w m w 0 n 0
 state_start w m n at long some = record {
   swept = record {
     runs = [];
@@ -137,15 +135,13 @@ state_start w m n at long some = record {
   edge = λ h. absurd (omega arith);
   there = omega arith;
   within = omega arith;
-  few = omega arith;
-  count = sym (ap unmarked (drop_all n m (omega arith)));
 }
 
-pub state_unmarked : (w₀ m w : List ℕ) (next a b s free : ℕ) → 1 ≤ a → b ≡ a + 1 → IsFree m a
-    → State w₀ m w next b s free → State w₀ m w next a (s + 1) (free + 1)
-state_unmarked w₀ m w next a b s free there up un open-here =
-    let D : ℕ → Type 0 = λ x. State w₀ m w next x s free in
-    let d : State w₀ m w next (a + 1) s free = subst D up open-here in
+pub state_unmarked : (w₀ m w : List ℕ) (next a b s : ℕ) → 1 ≤ a → b ≡ a + 1 → IsFree m a
+    → State w₀ m w next b s → State w₀ m w next a (s + 1)
+state_unmarked w₀ m w next a b s there up un open-here =
+    let D : ℕ → Type 0 = λ x. State w₀ m w next x s in
+    let d : State w₀ m w next (a + 1) s = subst D up open-here in
     let same : (a + 1) + s ≡ a + (s + 1) = omega arith in
     let P : ℕ → Type 0 = λ e. Partly w₀ m w next e in
     let Q : ℕ → Type 0 = λ e. e < length m → IsMarked m e in
@@ -155,14 +151,12 @@ state_unmarked w₀ m w next a b s free there up un open-here =
       edge = subst Q same d.edge;
       there = there;
       within = omega (arith, d.within);
-      few = omega (arith, d.few);
-      count = count_unmarked_lem m a free (omega (arith, d.within)) un d.count;
     }
 
 -- the open stretch is closed
-close_step : (w₀ m w : List ℕ) (next a s free : ℕ) (v : List ℕ) (head : ℕ) → 1 ≤ a → (1 < a → IsMarked m (a - 1))
-    → length m ≡ length w → length w ≤ 65536 → Closed w a s next v head → State w₀ m w next a s free → Partly w₀ m v head a
-close_step w₀ m w next a s free v head there first lm lw closed d =
+close_step : (w₀ m w : List ℕ) (next a s : ℕ) (v : List ℕ) (head : ℕ) → 1 ≤ a → (1 < a → IsMarked m (a - 1))
+    → length m ≡ length w → length w ≤ 65536 → Closed w a s next v head → State w₀ m w next a s → Partly w₀ m v head a
+close_step w₀ m w next a s v head there first lm lw closed d =
     ⊎_elim
     (λ none.
     let e = closed.empty none in
@@ -183,32 +177,31 @@ close_step w₀ m w next a s free v head there first lm lw closed d =
     none_or_some : (s : ℕ) → (s ≡ 0) ⊎ (1 ≤ s)
     none_or_some s = grind arith
 
-pub state_marked : (w₀ m w : List ℕ) (next a b s free : ℕ) (v : List ℕ) (head : ℕ) → 1 ≤ a → b ≡ a + 1 → IsMarked m a
-    → length m ≡ length w → length w ≤ 65536 → Closed w (a + 1) s next v head
-    → State w₀ m w next b s free → State w₀ m v head a 0 free
-state_marked w₀ m w next a b s free v head there up marked lm lw closed open-here =
-    let D : ℕ → Type 0 = λ x. State w₀ m w next x s free in
-    let d : State w₀ m w next (a + 1) s free = subst D up open-here in
+pub state_marked : (w₀ m w : List ℕ) (next a b s : ℕ) (v : List ℕ) (head p t : ℕ) → 1 ≤ a → b ≡ a + 1 → IsMarked m a
+    → length m ≡ length w → length w ≤ 65536 → p ≡ a + 1 → Closed w p s next v head → t ≡ 0
+    → State w₀ m w next b s → State w₀ m v head a t
+state_marked w₀ m w next a b s v head p t there up marked lm lw past closed none open-here =
+    let D : ℕ → Type 0 = λ x. State w₀ m w next x s in
+    let d : State w₀ m w next (a + 1) s = subst D up open-here in
+    let C : ℕ → Type 0 = λ x. Closed w x s next v head in
     let M : ℕ → Type 0 = λ k. IsMarked m k in
     let P : ℕ → Type 0 = λ e. Partly w₀ m v head e in
     let before : a ≡ (a + 1) - 1 = omega arith in
-    let at : a ≡ a + 0 = omega arith in
-    let closed-up = close_step w₀ m w next (a + 1) s free v head (omega arith) (λ h. subst M before marked) lm lw closed d in
+    let at : a ≡ a + t = omega arith in
+    let closed-up = close_step w₀ m w next (a + 1) s v head (omega arith) (λ h. subst M before marked) lm lw (subst C past closed) d in
     record {
       swept = subst P at (partly_down w₀ m v head a marked closed-up);
       loose = λ k l h. absurd (omega arith);
       edge = λ h. subst M at marked;
       there = there;
       within = omega (arith, d.within);
-      few = omega (arith, d.few);
-      count = count_marked m a free (omega (arith, d.within)) marked d.count;
     }
 
-pub state_done : (w₀ m w : List ℕ) (next s free : ℕ) (v : List ℕ) (head high x : ℕ) (u : List ℕ) → length m ≡ length w → length w ≤ 65536
+pub state_done : (w₀ m w : List ℕ) (next s : ℕ) (v : List ℕ) (head high x : ℕ) (u : List ℕ) → length m ≡ length w → length w ≤ 65536
     → Closed w 1 s next v head → x ≡ runWord (link_of high) (link_of head) → high ≡ size_of (get_or v 0 0) → high < 65536 → u ≡ set v 0 x
-    → State w₀ m w next 1 s free → Swept w₀ m u
-state_done w₀ m w next s free v head high x u lm lw closed x-is high_is half u-is d =
-    let p = close_step w₀ m w next 1 s free v head (omega arith) (λ h. absurd (omega arith)) lm lw closed d in
+    → State w₀ m w next 1 s → Swept w₀ m u
+state_done w₀ m w next s v head high x u lm lw closed x-is high_is half u-is d =
+    let p = close_step w₀ m w next 1 s v head (omega arith) (λ h. absurd (omega arith)) lm lw closed d in
     let t = set v 0 x in
     let lw₀ : length w ≡ length w₀ = d.swept.long in
     let lv : length v ≡ length w₀ = p.long in
@@ -227,3 +220,25 @@ state_done w₀ m w next s free v head high x u lm lw closed x-is high_is half u
       others = λ k h apart. other k h ∙ p.others k apart;
       long = long ∙ lv;
     })
+
+-- of the marks m those before word a are ahead: first all, and then one fewer at each step
+pub all_ahead : (m ahead : List ℕ) → ahead ≡ m → ahead ≡ take (length ahead) m
+all_ahead m ahead same = sym (take-length ahead) ∙ ap (take (length ahead)) same
+
+pub down_one : (m before after : List ℕ) (x : ℕ) → before ≡ after ++ x ∷ [] → before ≡ take (length before) m
+    → (length before ≡ length after + 1) × (after ≡ take (length after) m) × (get_or m (length after) 0 ≡ x)
+down_one m before after x last ahead =
+    let n = length after in
+    let long : length before ≡ n + 1 = ap length last ∙ length-append after (x ∷ []) in
+    let rest : take n before ≡ after = ap (take n) last ∙ take-append_seam after (x ∷ []) in
+    let here : get_or before n 0 ≡ x = ap (λ (l : List ℕ). get_or l n 0) last ∙ get_or-append_seam after x [] 0 in (
+      long,
+      sym rest ∙ ap (take n) ahead ∙ take-take n (length before) m (omega arith),
+      sym (get_or-take (length before) m n 0 (omega arith)) ∙ ap (λ (l : List ℕ). get_or l n 0) (sym ahead) ∙ here,
+    )
+
+pub one_ahead : (a k : ℕ) → k ≡ 1 → 1 ≤ a → (k < a → a ≡ 0) → a ≡ 1
+one_ahead a k same some none = ⊎_elim (λ more. absurd (omega (arith, none more))) (λ one. one) (more_or_one a k same some)
+  where
+    more_or_one : (a k : ℕ) → k ≡ 1 → 1 ≤ a → (k < a) ⊎ (a ≡ 1)
+    more_or_one a k same some = grind arith

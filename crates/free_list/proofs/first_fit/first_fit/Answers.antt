@@ -1,21 +1,14 @@
-use Rattle.std.proofs.Common.{arith}
 use Rattle.std.proofs.lemmas.Result.{err_from_is_err_and}
-use Rattle.std.proofs.lemmas.Option.{MatchOption-at_none, MatchOption-at_some}
-use Rattle.free_list.specs.Free.{proper, broken}
-use Rattle.free_list.proofs.Walk.{walked_more, walked_ends}
+use Rattle.free_list.proofs.Walk.{passed_run, passed_broken, passed_all}
 use Rattle.free_list.proofs.first_fit.first_fit.Goals as goal
 
-pub returns-in_err-next_run : goal.returns-in_err-next_run
-returns-in_err-next_run c =
+pub returns-in_err-found : goal.returns-in_err-found
+returns-in_err-found c =
     let p = err_from_is_err_and c.from_residual.result c.from_residual.ensures.1 in
-    rw (p.1, p.2) (walked_ends (broken _) c.loop-found.invariant.2 c.in_err-next_run.ensures)
+    rw (p.1, p.2) (passed_broken c.loop-run.run-iterator c.next.new.self c.in_err-found.was c.in-Some.ensures.steps c.loop-run.invariant)
 
-pub returns-in-None : goal.returns-in-None
-returns-in-None c =
-    walked_ends proper c.loop-found.invariant.2
-    (MatchOption-at_none _ _ c.in-None.is c.in_ok-next_run.ensures)
+pub loop-run-preserved : goal.loop-run-preserved
+loop-run-preserved c = passed_run c.loop-run.run-iterator c.next.new.self c.in_ok-found.was c.in-Some.ensures.steps c.if-found-n.false c.loop-run.invariant
 
-pub loop-found-preserved : goal.loop-found-preserved
-loop-found-preserved c =
-    let next = (MatchOption-at_some _ _ _ c.in-Some.is c.in_ok-next_run.ensures).1 in
-    (omega (arith, next.some), next.within, walked_more c.loop-found.invariant.2 next (omega arith))
+pub returns : goal.returns
+returns c = passed_all c.loop-run.run-iterator c.next.new.self c.in-None.ensures.steps c.loop-run.invariant

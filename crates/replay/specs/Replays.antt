@@ -37,6 +37,10 @@ exists_in Marked Sweep = true
 abbrev pub state_of : Heap → State
 state_of h = record { phase = h.phase; words = h.words.now; marks = h.marks.now; records = h.holds.records }
 
+-- both lie on the same lent words and marks
+abbrev pub SameMemory : Heap → Heap → Type 0
+SameMemory h h' = (h'.words.ghost_name ≡ h.words.ghost_name) × (h'.marks.ghost_name ≡ h.marks.ghost_name)
+
 -- a call that exists where the heap stands is carried out, and of any other nothing is done
 abbrev pub Carries : (t : Types) {S : Type 0} (step : S → Visit → Option S) → ℕ → Call S → State → Option (Result Answer Refusal) → State → Call S → Type 0
 Carries t step P c σ (Some a) σ' d = CallStep t step P c σ a σ' d

@@ -2,7 +2,7 @@ ghost use Rattle.std.specs.Prelude.{◌≡◌, ℕ, length};
 ghost use Rattle.layouts.specs.Types.{Types};
 ghost use Rattle.replay.specs.declared.call.Phase.TheVariants.{Open, Marked};
 ghost use Rattle.replay.specs.Steps.{CellStep};
-ghost use Rattle.replay.specs.Replays.{Carries, state_of};
+ghost use Rattle.replay.specs.Replays.{Carries, SameMemory, state_of};
 
 use crate::call::{Answer, Call, CellCall, Phase};
 use calls::by_number;
@@ -67,7 +67,7 @@ impl Heap<'_> {
         call: &mut Call<I>,
     ) -> Option<Result<Answer, Refusal>>
         requires { self.old.phase ≡ Open }
-        ensures same_memory { (self.new.words.ghost_name ≡ self.old.words.ghost_name) × (self.new.marks.ghost_name ≡ self.old.marks.ghost_name) }
+        ensures same_memory { SameMemory self.old self.new }
         ensures carries { Carries (S.TemplateSource.meaning source.now) I.Inspector.step (length places.old) call.old (state_of self.old) result (state_of self.new) call.new }
     {
         let words = &mut *self.words;
@@ -109,7 +109,7 @@ impl Heap<'_> {
     // A call in Marked, or none where it does not exist there.
     fn in_marked<I: Inspector>(&mut self, call: &Call<I>) -> Option<Result<Answer, Refusal>>
         requires { self.old.phase ≡ Marked }
-        ensures same_memory { (self.new.words.ghost_name ≡ self.old.words.ghost_name) × (self.new.marks.ghost_name ≡ self.old.marks.ghost_name) }
+        ensures same_memory { SameMemory self.old self.new }
         ensures carries { (t : Types) (P : ℕ) → Carries t I.Inspector.step P call.now (state_of self.old) result (state_of self.new) call.now }
     {
         let words = &mut *self.words;
@@ -139,7 +139,7 @@ impl Heap<'_> {
         source: &S,
         call: &mut Call<I>,
     ) -> Option<Result<Answer, Refusal>>
-        ensures same_memory { (self.new.words.ghost_name ≡ self.old.words.ghost_name) × (self.new.marks.ghost_name ≡ self.old.marks.ghost_name) }
+        ensures same_memory { SameMemory self.old self.new }
         ensures carries { Carries (S.TemplateSource.meaning source.now) I.Inspector.step (length places.old) call.old (state_of self.old) result (state_of self.new) call.new }
     {
         match self.phase {

@@ -31,30 +31,27 @@ pub fn replay<S: TemplateSource, I: Inspector>(
         phase: Phase::Open,
     };
     let most = calls.len().min(answers.len());
+    // By index: of what is written through a `zip` of two `iter_mut`, a proof knows no element.
     for i in 0..most {
         match heap.carry_out(places, source, &mut calls[i]) {
             Some(answer) => answers[i] = answer,
             None => {
-                let Heap { holds, phase, .. } = heap;
                 return Ok(Replayed {
                     count: i,
-                    phase,
-                    holds,
+                    phase: heap.phase,
+                    holds: heap.holds,
                 });
             }
         }
     }
-    let Heap { holds, phase, .. } = heap;
     Ok(Replayed {
         count: most,
-        phase,
-        holds,
+        phase: heap.phase,
+        holds: heap.holds,
     })
 }
 
 // The promise over every list of calls, by itself.
-pub fn every_list<I: Inspector>(_like: &I) -> u8
+pub fn every_list<I: Inspector>()
     ensures { EveryList I.Inspector.step }
-{
-    0
-}
+{}

@@ -20,13 +20,12 @@ loop-i-preserved g c =
           (new_state (length c.format_words.new.words) c.args.marks.now) before after
           (omega (arith, c.min-most.ensures, c.loop-i-test.true)) (omega (arith, c.min-most.ensures, c.loop-i.auto.answers)) c.loop-i.auto.calls c.loop-i.invariant.0
           (subst (λ x. CallStep (g.S.TemplateSource.meaning c.args.source.now) g.I.Inspector.step (length c.args.places.now) x before c.in-Some.answer after c.carry_out.new.call)
-          (c.loop-i.invariant.3 c.loop-i.i c.index-calls-i.result (omega arith))
+          (c.loop-i.invariant.2 c.loop-i.i c.index-calls-i.result (omega arith))
           (subst (λ n. CallStep (g.S.TemplateSource.meaning c.args.source.now) g.I.Inspector.step n (get_or c.loop-i.calls c.loop-i.i c.index-calls-i.result) before c.in-Some.answer after c.carry_out.new.call)
           c.loop-i.auto.places c.in-Some.ensures.carries)),
-      c.in-Some.ensures.same_memory.0 ∙ c.loop-i.invariant.1,
-      c.in-Some.ensures.same_memory.1 ∙ c.loop-i.invariant.2,
-      λ k d h. get_or-set_other c.loop-i.calls c.loop-i.i k c.carry_out.new.call d (λ e. omega (arith, e)) ∙ c.loop-i.invariant.3 k d (omega arith),
-      λ k d h. get_or-set_other c.loop-i.answers c.loop-i.i k c.in-Some.answer d (λ e. omega (arith, e)) ∙ c.loop-i.invariant.4 k d (omega arith),
+      (c.in-Some.ensures.same_memory.0 ∙ c.loop-i.invariant.1.0, c.in-Some.ensures.same_memory.1 ∙ c.loop-i.invariant.1.1),
+      λ k d h. get_or-set_other c.loop-i.calls c.loop-i.i k c.carry_out.new.call d (λ e. omega (arith, e)) ∙ c.loop-i.invariant.2 k d (omega arith),
+      λ k d h. get_or-set_other c.loop-i.answers c.loop-i.i k c.in-Some.answer d (λ e. omega (arith, e)) ∙ c.loop-i.invariant.3 k d (omega arith),
     )
 
 pub returns-in-None : goal.returns-in-None
@@ -42,9 +41,9 @@ returns-in-None g c =
           (omega (arith, c.min-most.ensures, c.loop-i-test.true))
           (inr (λ d.
           ap (λ (σ : State). exists_in σ.phase (get_or c.args.calls.now c.loop-i.i d)) gone.1
-          ∙ ap (exists_in c.loop-i.heap.phase) (get_or_default c.args.calls.now c.loop-i.i d c.index-calls-i.result (omega (arith, c.min-most.ensures, c.loop-i-test.true)) ∙ sym (c.loop-i.invariant.3 c.loop-i.i c.index-calls-i.result (omega arith)))
+          ∙ ap (exists_in c.loop-i.heap.phase) (get_or_default c.args.calls.now c.loop-i.i d c.index-calls-i.result (omega (arith, c.min-most.ensures, c.loop-i-test.true)) ∙ sym (c.loop-i.invariant.2 c.loop-i.i c.index-calls-i.result (omega arith)))
           ∙ gone.0))
-          c.loop-i.invariant.3 c.loop-i.invariant.4),
+          c.loop-i.invariant.2 c.loop-i.invariant.3),
     )
 
 pub returns : goal.returns
@@ -56,5 +55,5 @@ returns g c =
           (ran (g.S.TemplateSource.meaning c.args.source.now) g.I.Inspector.step (length c.args.places.now) (length c.args.words.now) (length c.format_words.new.words) c.args.marks.now c.args.calls.now c.loop-i.calls c.args.answers.now c.loop-i.answers c.loop-i.i c.loop-i.heap
           (g.S.TemplateSource.laws c.args.source.now) row c.format_words.auto.words (search rules) (search rules) c.loop-i.invariant.0
           (omega (arith, c.min-most.ensures)) (inl (i ∙ c.min-most.ensures))
-          c.loop-i.invariant.3 c.loop-i.invariant.4),
+          c.loop-i.invariant.2 c.loop-i.invariant.3),
     )

@@ -1,5 +1,5 @@
 -- What each call of a list answers and leaves, from a known state; and a list of them.
-use Rattle.std.proofs.Common.{◌≡◌, ℕ, min, List, [], ◌∷◌, ◌++◌, map, length, drop, set, replicate, Some, None, Ok, Err, Option, Result, sym, refl, ap, ◌∙◌, subst, arith}
+use Rattle.std.proofs.Common.{◌≡◌, ℕ, min, List, [], ◌∷◌, ◌++◌, map, length, drop, set, replicate, Some, None, Ok, Err, Option, Result, sym, refl, ap, ◌∙◌, subst}
 use Rattle.refusals.specs.declared.refusal.Refusal.{Refusal}
 use Rattle.layouts.specs.Types.{Types}
 use Rattle.layouts.specs.Classes.{class_of}
@@ -39,7 +39,7 @@ state_is σ {b} {w} {m} {rs} eb ew er em =
     ∙ ap (λ x. state b w rs x) em
 
 none_some : {f : Refusal} → ◌≡◌ {A = Option Refusal} None (Some f) → ⊥
-none_some e = let z : ◌≡◌ {A = ℕ} 0 1 = cc in omega arith
+none_some e = cc
 
 -- a call that no row refuses is done
 pub accepted : {X : Type 0} {due : Option Refusal} {same : Type 0} {does : X → Type 0} (given : X → Answer) {a : Result Answer Refusal} → due ≡ None
@@ -51,7 +51,7 @@ accepted {X} {due} {same} {does} given {a} free y = by_result y.result y.is y.re
     by_result (Err f) is related = absurd (none_some (sym free ∙ related.0))
 
 cons_nil : {A : Type 0} {x : A} {xs : List A} → (x ∷ xs) ≡ [] → ⊥
-cons_nil e = let z : ◌≡◌ {A = ℕ} 0 1 = ap (λ l. elim l [ [] ↦ 1 | y ∷ ys ↦ 0 ]) e in omega arith
+cons_nil e = cc
 
 module _ (t : Types) {S : Type 0} (step : S → Visit → Option S) (P : ℕ) where
   -- from the state σ the call answers x and leaves τ, in whatever way it is carried out

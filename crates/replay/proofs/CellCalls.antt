@@ -1,5 +1,5 @@
 -- Each call that reads or writes holds and cells answers and leaves what the model tells.
-use Rattle.std.proofs.Common.{◌≡◌, ℕ, suc, ◌+◌, ◌-◌, Bool, true, eqb, List, [], ◌∷◌, ◌++◌, length, get_or, set, is_some, Some, None, Ok, Err, Option, Result, sym, refl, ap, ◌∙◌, arith, length-set}
+use Rattle.std.proofs.Common.{◌≡◌, ℕ, suc, ◌+◌, ◌-◌, Bool, true, eqb, List, [], ◌∷◌, ◌++◌, length, get_or, set, is_some, Some, None, Ok, Err, Option, Result, sym, refl, ap, ◌∙◌, length-set}
 use Rattle.refusals.specs.declared.refusal.Refusal.{Refusal}
 use Rattle.layouts.specs.declared.entry.Class.{Class}
 use Rattle.layouts.specs.declared.entry.Class.TheVariants.{Plain, Pointer, Typed, SecondHalf}
@@ -53,7 +53,7 @@ hold_count b h y holds = length-set b.holds h y ∙ holds
 
 -- a type that has no words has no cells
 free_type : (o : Option ℕ) → is_some o ≡ true → eqb (words_in o) 0 ≡ true → cell_free o ≡ true
-free_type None e z = let z : ◌≡◌ {A = ℕ} 0 1 = cc in absurd (omega arith)
+free_type None e z = absurd cc
 free_type (Some n) e z = z
 
 module _ (t : Types) (b : Model) (w w' : List ℕ) (rs rs' : List HoldRecord) (a : Result Answer Refusal) (st : Stands t b w rs) (sixty-four : length b.holds ≡ 64) where
@@ -107,9 +107,9 @@ module _ (t : Types) (b : Model) (w w' : List ℕ) (rs rs' : List HoldRecord) (a
 
 plain_only : (c : Class) → plain c ≡ true → c ≡ Plain
 plain_only Plain e = refl
-plain_only Pointer e = let z : ◌≡◌ {A = ℕ} 0 1 = cc in absurd (omega arith)
-plain_only (Typed d) e = let z : ◌≡◌ {A = ℕ} 0 1 = cc in absurd (omega arith)
-plain_only SecondHalf e = let z : ◌≡◌ {A = ℕ} 0 1 = cc in absurd (omega arith)
+plain_only Pointer e = absurd cc
+plain_only (Typed d) e = absurd cc
+plain_only SecondHalf e = absurd cc
 
 same_some : (k l : Content) → ◌≡◌ {A = Option Content} (Some k) (Some l) → k ≡ l
 same_some k l e = cc

@@ -60,7 +60,7 @@ module _ (t : Types) {S : Type 0} (step : S → Visit → Option S) (P : ℕ) (b
   survey_sim x = by x.3.result x.3.is x.3.related
     where
       by : (r : Result ℕ Refusal) → a ≡ answer_of Number r → Surveys L σ.marks r → CallRight t step P b Survey a σ' d × Sound t b σ'
-      by (Err f) is y = let due = y.0 in let none = so.memory in let z : ◌≡◌ {A = ℕ} 0 1 = cc in absurd (omega arith)
+      by (Err f) is y = let due = y.0 in let none = so.memory in absurd cc
       by (Ok n) is y = (
         (n, is, subst₂ (λ k N. sets.Number (SpareIn t b k) N) (long ∙ ap (λ (s : State). length s.words) (sym x.2)) (sym y.1) (survey t b σ.marks (so.marked x.0))),
         subst (Sound t b) (sym x.2) so,
@@ -73,7 +73,7 @@ module _ (t : Types) {S : Type 0} (step : S → Visit → Option S) (P : ℕ) (b
   sweep_sim law x = by x.3.result x.3.is x.3.related.0 x.3.related.1
     where
       by : (r : Result ℕ Refusal) → a ≡ answer_of Number r → Sweeps σ.words σ.marks σ'.words σ'.marks r → σ'.phase ≡ after_sweep r → CallRight t step P b Sweep a σ' d × Sound t b σ'
-      by (Err f) is y mode = let due = y.0 in let none = so.memory in let z : ◌≡◌ {A = ℕ} 0 1 = cc in absurd (omega arith)
+      by (Err f) is y mode = let due = y.0 in let none = so.memory in absurd cc
       by (Ok n) is y mode =
           let marks = so.marked x.0 in
           let swept = y.1.1 in

@@ -71,7 +71,7 @@ given_long w v n a g =
     ]
 
 not_broken : (q : ℕ) → proper ≡ broken q → ⊥
-not_broken q e = let z : ◌≡◌ {A = ℕ} 0 1 = cc in omega arith
+not_broken q e = cc
 
 module _ (t : Types) (b : Model) (w : List ℕ) (rs : List HoldRecord) (h c : ℕ) (law : Lawful t) (st : Stands t b w rs) where
   -- what is right of a making that got so far
@@ -93,8 +93,7 @@ module _ (t : Types) (b : Model) (w : List ℕ) (rs : List HoldRecord) (h c : �
       absurd (not_broken q (free_once w 0 1 st.beside.runs none.runs proper (broken q) st.beside.reads none.reads).1)
   found some (broken_content none (stopped {m = m} {f = f} marking)) =
       let ok = (marked_all t b w rs st.agrees m (Err f) marking).1 in
-      let z : ◌≡◌ {A = ℕ} 0 1 = cc in
-      absurd (omega arith)
+      absurd cc
   found some (collected {w' = v} {a = a} none (swept {m = m} {u = u} {k = k} marking sweep) g) =
       let marks = (marked_all t b w rs st.agrees m (Ok k) marking).3 in
       given u v a (sweep_stands t b w m u rs law st.agrees marks sweep) sweep.long g

@@ -38,7 +38,7 @@ sound t b σ st marks memory holds = record {
 }
 
 pub not_marked : (σ : State) (X : Type 0) → σ.phase ≡ Open → σ.phase ≡ Marked → X
-not_marked σ X unmarked marked = let z : ◌≡◌ {A = ℕ} 0 1 = cc in absurd (omega arith)
+not_marked σ X unmarked marked = absurd cc
 
 -- there are as many marks as words
 pub marks_long : (L M : ℕ) → row_1 L M ≡ None → M ≡ L
@@ -55,9 +55,9 @@ kept_sound t b σ σ' so ws rs ms marks =
 
 -- what is right by what is due
 pub due_refused : (o : Option Refusal) (f : Refusal) (a : Result Answer Refusal) (X : Type 0) → o ≡ Some f → a ≡ Err f → ByDue o a X
-due_refused None f a X due is = let z : ◌≡◌ {A = ℕ} 0 1 = cc in absurd (omega arith)
+due_refused None f a X due is = absurd cc
 due_refused (Some g) f a X due is = cc
 
 pub due_none : (o : Option Refusal) (a : Result Answer Refusal) (X : Type 0) → o ≡ None → X → ByDue o a X
 due_none None a X due right = right
-due_none (Some g) a X due right = let z : ◌≡◌ {A = ℕ} 0 1 = cc in absurd (omega arith)
+due_none (Some g) a X due right = absurd cc

@@ -1,4 +1,4 @@
-use Rattle.std.proofs.Common.{◌≡◌, ◌<◌, length, get_or, take, set, sym, ap, ◌∙◌, subst, inl, inr, arith, get_or-set_other, rules}
+use Rattle.std.proofs.Common.{◌≡◌, length, get_or, take, set, sym, ap, ◌∙◌, subst, inl, inr, arith, get_or-set_other, rules}
 use lib.Seq.{set-get_or}
 use Rattle.std.proofs.lemmas.List.{get_or_default}
 use Rattle.replay.specs.States.{State, new_state, events}
@@ -6,11 +6,6 @@ use Rattle.replay.specs.Steps.{CallStep, Run}
 use Rattle.replay.specs.Replays.{exists_in, state_of}
 use Rattle.replay.proofs.Joined.{run_more, ran}
 use Rattle.replay.proofs.replay.replay.Goals as goal
-
-pub offset_bounds-calls-i : goal.offset_bounds-calls-i
-offset_bounds-calls-i g c =
-    let lt : c.loop-i.i < length c.args.calls.now = omega (arith, c.min-most.ensures) in
-    search rules
 
 pub loop-i-preserved : goal.loop-i-preserved
 loop-i-preserved g c =

@@ -10,7 +10,8 @@ use Rattle.replay.specs.declared.call.Answer.{Answer}
 use Rattle.replay.specs.declared.one.Heap.{Heap}
 use Rattle.replay.specs.States.{State, Event, events, new_state}
 use Rattle.replay.specs.Steps.{Step, CallStep, Run}
-use Rattle.replay.specs.Replays.{Ran, state_of, exists_in}
+use Rattle.replay.specs.Replays.{Ran, exists_in}
+use Rattle.replay.specs.Carries.{state_of}
 use Rattle.replay.proofs.Lists.{every_list_lem}
 
 module _ (t : Types) {S : Type 0} (step : S → Visit → Option S) (P : ℕ) where

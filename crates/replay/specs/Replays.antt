@@ -11,9 +11,7 @@ use Rattle.replay.specs.declared.call.Answer.{Answer}
 use Rattle.replay.specs.declared.call.Phase.{Phase}
 use Rattle.replay.specs.declared.call.Phase.TheVariants.{Open, Marked}
 use Rattle.replay.specs.declared.call.Replayed.{Replayed}
-use Rattle.replay.specs.declared.one.Heap.{Heap}
 use Rattle.replay.specs.States.{State, new_state, events}
-use Rattle.replay.specs.Steps.{CallStep}
 use Rattle.replay.specs.Promise.{Promise}
 
 -- whether a call exists in Open or in Marked
@@ -32,19 +30,6 @@ exists_in Marked (Mark p) = false
 exists_in Marked Survey = true
 exists_in Marked Unmark = true
 exists_in Marked Sweep = true
-
--- the state of a heap that runs calls
-abbrev pub state_of : Heap → State
-state_of h = record { phase = h.phase; words = h.words.now; marks = h.marks.now; records = h.holds.records }
-
--- both lie on the same lent words and marks
-abbrev pub SameMemory : Heap → Heap → Type 0
-SameMemory h h' = (h'.words.ghost_name ≡ h.words.ghost_name) × (h'.marks.ghost_name ≡ h.marks.ghost_name)
-
--- a call that exists where the heap stands is carried out, and of any other nothing is done
-abbrev pub Carries : (t : Types) {S : Type 0} (step : S → Visit → Option S) → ℕ → Call S → State → Option (Result Answer Refusal) → State → Call S → Type 0
-Carries t step P c σ (Some a) σ' d = CallStep t step P c σ a σ' d
-Carries t step P c σ None σ' d = (exists_in σ.phase c ≡ false) × (σ' ≡ σ) × (d ≡ c)
 
 -- the heap that a run leaves
 abbrev pub left_state : Replayed → List ℕ → List ℕ → State

@@ -2,7 +2,7 @@ ghost use Rattle.std.specs.Prelude.{◌≡◌, ℕ, length};
 ghost use Rattle.layouts.specs.Types.{Types};
 ghost use Rattle.replay.specs.declared.call.Phase.TheVariants.{Open, Marked};
 ghost use Rattle.replay.specs.Steps.{CellStep};
-ghost use Rattle.replay.specs.Replays.{Carries, SameMemory, state_of};
+ghost use Rattle.replay.specs.Carries.{Carries, SameMemory, state_of};
 
 use crate::call::{Answer, Call, CellCall, Phase};
 use calls::by_number;
@@ -70,6 +70,7 @@ impl Heap<'_> {
         ensures same_memory { SameMemory self.old self.new }
         ensures carries { Carries (S.TemplateSource.meaning source.now) I.Inspector.step (length places.old) call.old (state_of self.old) result (state_of self.new) call.new }
     {
+        // Reborrowed here: of a field that is passed on as a shared slice, a proof knows only the length afterwards.
         let words = &mut *self.words;
         let marks = &mut *self.marks;
         let holds = &mut self.holds;

@@ -3,7 +3,8 @@ use lib.Seq.{set-get_or}
 use Rattle.std.proofs.lemmas.List.{get_or_default}
 use Rattle.replay.specs.States.{State, new_state, events}
 use Rattle.replay.specs.Steps.{CallStep, Run}
-use Rattle.replay.specs.Replays.{exists_in, state_of}
+use Rattle.replay.specs.Replays.{exists_in}
+use Rattle.replay.specs.Carries.{state_of}
 use Rattle.replay.proofs.Joined.{run_more, ran}
 use Rattle.replay.proofs.replay.replay.Goals as goal
 

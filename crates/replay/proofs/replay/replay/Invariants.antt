@@ -4,7 +4,7 @@ use Rattle.replay.specs.declared.call.Call.{Call}
 use Rattle.replay.specs.declared.call.Answer.{Answer}
 use Rattle.replay.specs.States.{new_state, events}
 use Rattle.replay.specs.Steps.{Run}
-use Rattle.replay.specs.Replays.{SameMemory, state_of}
+use Rattle.replay.specs.Carries.{SameMemory, state_of}
 use Rattle.replay.proofs.replay.replay.Given as goal
 
 -- the calls so far, with their answers and what they left of themselves, lead from the new heap to the heap as it is, on the memory

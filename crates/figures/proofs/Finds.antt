@@ -24,7 +24,7 @@ abbrev pub cut_off : List ℕ → ℕ → ℕ → ℕ → List ℕ
 cut_off w n a s = zeroed (shortened w a (s - n)) (a + (s - n)) n
 
 proper_broken : (q : ℕ) → proper ≡ broken q → ⊥
-proper_broken q e = let z : ◌≡◌ {A = ℕ} 0 1 = cc in omega arith
+proper_broken q e = cc
 
 pub given_is : {w v : List ℕ} {n c p a s : ℕ} → FirstFit w n p a s → n < s → Given w n v c → (c ≡ a + (s - n)) × (v ≡ cut_off w n a s)
 given_is {w} {v} {n} {c} {p} {a} {s} fit more g =
@@ -36,7 +36,7 @@ given_is {w} {v} {n} {c} {p} {a} {s} fit more g =
     (omega (arith, g.cell, same.1, same.2), cut.part more)
 
 err_ok : {X : Type 0} {x : X} {f : Refusal} → ◌≡◌ {A = Result X Refusal} (Err f) (Ok x) → ⊥
-err_ok e = let z : ◌≡◌ {A = ℕ} 0 1 = cc in omega arith
+err_ok e = cc
 
 -- a cell of n words is cut from that run
 pub cut_given : {w : List ℕ} {n p a s : ℕ} → Heap w → 1 ≤ n → FirstFit w n p a s → n < s → Given w n (cut_off w n a s) (a + (s - n))

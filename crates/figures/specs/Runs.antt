@@ -1,5 +1,6 @@
 -- The worked figures of lists of calls on a new heap of 13 words.
-use Rattle.std.specs.Prelude.{◌≡◌, ℕ, ◌≤◌, List, [], ◌∷◌, ◌++◌, map, length, Option}
+use Rattle.std.specs.Prelude.{◌≡◌, ℕ, ◌≤◌, List, [], ◌∷◌, ◌++◌, map, length, Ok, Err, Option, Result}
+use Rattle.refusals.specs.declared.refusal.Refusal.{Refusal}
 use Rattle.refusals.specs.declared.refusal.Refusal.TheVariants.{NoRun}
 use Rattle.refusals.specs.Table.{number_of, place_of}
 use Rattle.layouts.specs.Types.{Types}
@@ -10,7 +11,7 @@ use Rattle.replay.specs.declared.call.CellCall.TheVariants.{Take, Release, Set, 
 use Rattle.replay.specs.declared.call.Call.{Call}
 use Rattle.replay.specs.declared.call.Call.TheVariants.{Cell, Make, Mark, Sweep}
 use Rattle.replay.specs.declared.call.Answer.{Answer}
-use Rattle.replay.specs.declared.call.Answer.TheVariants.{Done, Number, Refused}
+use Rattle.replay.specs.declared.call.Answer.TheVariants.{Done, Number}
 use Rattle.replay.specs.States.{State, Event, new_state}
 use Rattle.replay.specs.Steps as steps
 use Rattle.figures.specs.Sources.{three}
@@ -26,7 +27,7 @@ IsRun {S} step P marks calls es end =
 
 -- Whatever the marks read, and with 13 pending places or more: the calls have a run, and every run of them answers so and leaves
 -- these words.
-abbrev pub Always : {S : Type 0} → (S → Visit → Option S) → List (Call S) → List Answer → List ℕ → Type 0
+abbrev pub Always : {S : Type 0} → (S → Visit → Option S) → List (Call S) → List (Result Answer Refusal) → List ℕ → Type 0
 Always {S} step calls answers words = (P : ℕ) (marks : List ℕ) → 13 ≤ P → length marks ≡ 13
     → ((es : List (Event S)) × (end : State) × IsRun step P marks calls es end)
     × ((es : List (Event S)) (end : State) → IsRun step P marks calls es end
@@ -51,19 +52,19 @@ refilled = collected ++ (Cell (Take 1) ∷ Make 1 1 13 ∷ Make 1 1 13 ∷ Cell 
 pub record RunFigures {S : Type 0} (step : S → Visit → Option S) : Type 0 where
   -- the makes answer 9 and 7; word 1 is then 393,216: a run of 6 words that links to none
   pub makes : Always step two_makes
-      (Done ∷ Number 9 ∷ Done ∷ Number 7 ∷ [])
+      (Ok Done ∷ Ok (Number 9) ∷ Ok Done ∷ Ok (Number 7) ∷ [])
       (1 ∷ 393216 ∷ 0 ∷ 0 ∷ 0 ∷ 0 ∷ 0 ∷ 0 ∷ 0 ∷ 0 ∷ 0 ∷ 0 ∷ 0 ∷ [])
   -- after the set word 7 is 40, after the put words 11 and 12 are 6 and 7
   pub puts : Always step joined
-      (Done ∷ Number 9 ∷ Done ∷ Number 7 ∷ Done ∷ Done ∷ [])
+      (Ok Done ∷ Ok (Number 9) ∷ Ok Done ∷ Ok (Number 7) ∷ Ok Done ∷ Ok Done ∷ [])
       (1 ∷ 393216 ∷ 0 ∷ 0 ∷ 0 ∷ 0 ∷ 0 ∷ 40 ∷ 0 ∷ 0 ∷ 0 ∷ 6 ∷ 7 ∷ [])
   -- the collection marks 2 cells and frees 6 words
   pub collects : Always step collected
-      (Done ∷ Number 9 ∷ Done ∷ Number 7 ∷ Done ∷ Done ∷ Done ∷ Number 2 ∷ Number 6 ∷ [])
+      (Ok Done ∷ Ok (Number 9) ∷ Ok Done ∷ Ok (Number 7) ∷ Ok Done ∷ Ok Done ∷ Ok Done ∷ Ok (Number 2) ∷ Ok (Number 6) ∷ [])
       (1 ∷ 393216 ∷ 0 ∷ 0 ∷ 0 ∷ 0 ∷ 0 ∷ 40 ∷ 0 ∷ 0 ∷ 0 ∷ 6 ∷ 7 ∷ [])
   -- the next make answers 3, for the words 3 to 6; the one after it is refused by 11, as no run has 4 words; after a release, 3 again
   pub refills : Always step refilled
-      (Done ∷ Number 9 ∷ Done ∷ Number 7 ∷ Done ∷ Done ∷ Done ∷ Number 2 ∷ Number 6
-      ∷ Done ∷ Number 3 ∷ Refused (NoRun 4) ∷ Done ∷ Done ∷ Number 3 ∷ [])
+      (Ok Done ∷ Ok (Number 9) ∷ Ok Done ∷ Ok (Number 7) ∷ Ok Done ∷ Ok Done ∷ Ok Done ∷ Ok (Number 2) ∷ Ok (Number 6)
+      ∷ Ok Done ∷ Ok (Number 3) ∷ Err (NoRun 4) ∷ Ok Done ∷ Ok Done ∷ Ok (Number 3) ∷ [])
       (1 ∷ 131072 ∷ 0 ∷ 0 ∷ 0 ∷ 0 ∷ 0 ∷ 40 ∷ 0 ∷ 0 ∷ 0 ∷ 6 ∷ 7 ∷ [])
   pub no_run : (number_of (NoRun 4) ≡ 11) × (place_of (NoRun 4) ≡ 4)

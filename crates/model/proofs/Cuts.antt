@@ -197,7 +197,7 @@ module _ (t : Types) (b : Model) (w v : List ℕ) (rs : List HoldRecord) (h code
   middle j lo hi = left_spare j (spare j (inr (inl (lo, omega arith)))) (λ ge less. omega (arith, g.cell))
 
   not_broken : proper ≡ broken g.run → ⊥
-  not_broken e = let z : ◌≡◌ {A = ℕ} 0 1 = cc in omega arith
+  not_broken e = cc
 
   beside : Beside t b' v
   unfolding front n

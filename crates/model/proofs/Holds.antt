@@ -57,12 +57,12 @@ hold_stands t b w rs h y new kind st = record {
 -- a hold is given up
 pub release_stands : (t : Types) (b : Model) (w : List ℕ) (rs : List HoldRecord) (h : ℕ) → Stands t b w rs → Stands t (with_hold b h free) w (set rs h unheld)
 release_stands t b w rs h st =
-    hold_stands t b w rs h free (λ l e. let z : ◌≡◌ {A = ℕ} 0 1 = cc in absurd (omega arith)) (λ c x e. let z : ◌≡◌ {A = ℕ} 0 1 = cc in absurd (omega arith)) st
+    hold_stands t b w rs h free (λ l e. absurd cc) (λ c x e. absurd cc) st
 
 -- a hold is taken
 pub take_hold_stands : (t : Types) (b : Model) (w : List ℕ) (rs : List HoldRecord) (h : ℕ) → Stands t b w rs → Stands t (with_hold b h (held nothing)) w (set rs h (holding Nothing))
 take_hold_stands t b w rs h st =
-    hold_stands t b w rs h (held nothing) (λ l e. let z : ◌≡◌ {A = ℕ} 0 1 = cc in absurd (omega arith)) (λ c x e. let z : ◌≡◌ {A = ℕ} 0 1 = cc in absurd (omega arith)) st
+    hold_stands t b w rs h (held nothing) (λ l e. absurd cc) (λ c x e. absurd cc) st
 
 -- a hold gets what another has
 pub copy_stands : (t : Types) (b : Model) (w : List ℕ) (rs : List HoldRecord) (g h : ℕ) (x : Value) → hold_of b g ≡ held x → Stands t b w rs → Stands t (with_hold b h (held x)) w (set rs h (holding (shown b.cells x)))
@@ -72,29 +72,29 @@ copy_stands t b w rs g h x has st =
 -- a hold gets an immediate
 pub note_stands : (t : Types) (b : Model) (w : List ℕ) (rs : List HoldRecord) (h c n : ℕ) → cell_free (t.size c) ≡ true → Stands t b w rs → Stands t (with_hold b h (held (immediate c n))) w (set rs h (holding (Immediate c n)))
 note_stands t b w rs h c n ok st =
-    hold_stands t b w rs h (held (immediate c n)) (λ l e. let z : ◌≡◌ {A = ℕ} 0 1 = cc in absurd (omega arith)) (λ d x e. let same : c ≡ d = cc in rw (← same) ok) st
+    hold_stands t b w rs h (held (immediate c n)) (λ l e. absurd cc) (λ d x e. let same : c ≡ d = cc in rw (← same) ok) st
 
 -- a word that says an immediate names a type that has no cells
 fit_not : (f : Bool) (k a c x : ℕ) → cond f (Some (Cell k a)) None ≡ Some (Immediate c x) → ⊥
-fit_not true k a c x e = let z : ◌≡◌ {A = ℕ} 0 1 = cc in omega arith
-fit_not false k a c x e = let z : ◌≡◌ {A = ℕ} 0 1 = cc in omega arith
+fit_not true k a c x e = cc
+fit_not false k a c x e = cc
 
 pointer_kind : (s i f : Bool) (k a c x : ℕ) → cond s (Some Nothing) (cond i (Some (Immediate k a)) (cond f (Some (Cell k a)) None)) ≡ Some (Immediate c x) → (i ≡ true) × (k ≡ c)
-pointer_kind true i f k a c x e = let z : ◌≡◌ {A = ℕ} 0 1 = cc in absurd (omega arith)
+pointer_kind true i f k a c x e = absurd cc
 pointer_kind false true f k a c x e = (refl, cc)
 pointer_kind false false f k a c x e = absurd (fit_not f k a c x e)
 
 typed_kind : (s f : Bool) (k a c x : ℕ) → cond s (Some Nothing) (cond f (Some (Cell k a)) None) ≡ Some (Immediate c x) → ⊥
-typed_kind true f k a c x e = let z : ◌≡◌ {A = ℕ} 0 1 = cc in omega arith
+typed_kind true f k a c x e = cc
 typed_kind false f k a c x e = fit_not f k a c x e
 
 said_kind : (t : Types) (w : List ℕ) (p : ℕ) (k : Class) (c x : ℕ) → said_by t w p k ≡ content (Some (Immediate c x)) → cell_free (t.size c) ≡ true
-said_kind t w p Plain c x is = let z : ◌≡◌ {A = ℕ} 0 1 = cc in absurd (omega arith)
+said_kind t w p Plain c x is = absurd cc
 said_kind t w p Pointer c x is =
     let k = pointer_kind (eqb (get_or w p 0) 0) (cell_free (t.size (get_or w p 0))) (fits t (length w) (get_or w p 0) (get_or w (p + 1) 0)) (get_or w p 0) (get_or w (p + 1) 0) c x (cc) in
     rw (← k.1) k.0
 said_kind t w p (Typed d) c x is = absurd (typed_kind (eqb (get_or w p 0) 0) (fits t (length w) d (get_or w p 0)) d (get_or w p 0) c x (cc))
-said_kind t w p SecondHalf c x is = let z : ◌≡◌ {A = ℕ} 0 1 = cc in absurd (omega arith)
+said_kind t w p SecondHalf c x is = absurd cc
 
 -- a hold gets what a word of a reached cell has
 pub fetch_stands : (t : Types) (b : Model) (w : List ℕ) (rs : List HoldRecord) (h k j : ℕ) (x : Value) → Reached b k → word_of b.cells k j ≡ value x → Stands t b w rs → Stands t (with_hold b h (held x)) w (set rs h (holding (shown b.cells x)))
@@ -108,7 +108,7 @@ fetch_stands t b w rs h k j x rk has st =
       | inl lt ↦ said_kind t w (address_of b.cells k + j) (class_of t (code_of b.cells k) (suc j)) c n (sym (said_at t w (code_of b.cells k) (address_of b.cells k) j) ∙ st.agrees.tidy.says k j rk lt ∙ ap (shown_word b.cells) in-word)
       | inr past ↦
           let none : word_of b.cells k j ≡ second = get_or_past (made b.cells k).words j second (omega (arith, st.agrees.tidy.sized k rk)) in
-          let z : ◌≡◌ {A = ℕ} 0 1 = cc in absurd (omega arith)
+          absurd cc
     ])
     st
 
@@ -122,7 +122,7 @@ map_free zero = refl
 map_free (suc n) = ap (λ rs. unheld ∷ rs) (map_free n)
 
 pub nothing_reached : (k : ℕ) → Reached new_model k → ⊥
-nothing_reached k (root p) = let e = all_free 64 p.0 in let f = p.1 in let z : ◌≡◌ {A = ℕ} 0 1 = cc in omega arith
+nothing_reached k (root p) = let e = all_free 64 p.0 in let f = p.1 in cc
 nothing_reached k (word {k = k₁} j at e) = nothing_reached k₁ at
 
 -- a new heap, whose free list reads to a proper end
@@ -130,7 +130,7 @@ pub new_stands : (t : Types) (w : List ℕ) (runs : List Run) → Free w 0 1 run
 new_stands t w runs reads = record {
   agrees = record {
     held = map_free 64;
-    kinds = λ h c x f. let e = all_free 64 h in let z : ◌≡◌ {A = ℕ} 0 1 = cc in absurd (omega arith);
+    kinds = λ h c x f. let e = all_free 64 h in absurd cc;
     tidy = record {
       inside = λ k r. absurd (nothing_reached k r);
       apart = λ k l j r. absurd (nothing_reached k r);

@@ -18,12 +18,12 @@ use Rattle.model.proofs.Laws.{paired, no_width, not_free}
 use Rattle.calls.specs.Holds.{holding}
 
 said_by_kept : (t : Types) (w w' : List ℕ) (p : ℕ) (k : Class) → length w' ≡ length w → ((k ≡ SecondHalf → ⊥) → get_or w' p 0 ≡ get_or w p 0) → (k ≡ Pointer → get_or w' (p + 1) 0 ≡ get_or w (p + 1) 0) → said_by t w' p k ≡ said_by t w p k
-said_by_kept t w w' p Plain len one two = ap plain (one (λ f. let z : ◌≡◌ {A = ℕ} 0 1 = cc in omega arith))
+said_by_kept t w w' p Plain len one two = ap plain (one (λ f. cc))
 said_by_kept t w w' p Pointer len one two =
-    let first : get_or w' p 0 ≡ get_or w p 0 = one (λ f. let z : ◌≡◌ {A = ℕ} 0 1 = cc in omega arith) in
+    let first : get_or w' p 0 ≡ get_or w p 0 = one (λ f. cc) in
     rw (len, first, two refl)
 said_by_kept t w w' p (Typed c) len one two =
-    let first : get_or w' p 0 ≡ get_or w p 0 = one (λ f. let z : ◌≡◌ {A = ℕ} 0 1 = cc in omega arith) in
+    let first : get_or w' p 0 ≡ get_or w p 0 = one (λ f. cc) in
     rw (len, first)
 said_by_kept t w w' p SecondHalf len one two = refl
 
@@ -62,7 +62,7 @@ typed_says_cell t L c a fit =
 
 numbered : (t : Types) (L c x : ℕ) → Lawful t → cell_free (t.size c) ≡ true → pointer_says t L c x ≡ Some (Immediate c x)
 numbered t L c x law e =
-    cond-false (eqb c 0) _ _ (ne_eqb c 0 (λ z. let no : cell_free (t.size c) ≡ false = ap (λ y. cell_free (t.size y)) z ∙ not_free t law in let bad : ◌≡◌ {A = ℕ} 0 1 = cc in omega arith)) ∙ cond-true (cell_free (t.size c)) _ _ e
+    cond-false (eqb c 0) _ _ (ne_eqb c 0 (λ z. let no : cell_free (t.size c) ≡ false = ap (λ y. cell_free (t.size y)) z ∙ not_free t law in cc)) ∙ cond-true (cell_free (t.size c)) _ _ e
 
 -- a pointer says the value whose words were put there
 pub pointer_says_put : (t : Types) (cs : List Made) (L : ℕ) (x : Value) → Lawful t → ((l : ℕ) → x ≡ cell l → fits t L (code_of cs l) (address_of cs l) ≡ true) → ((c n : ℕ) → x ≡ immediate c n → cell_free (t.size c) ≡ true) → pointer_says t L (code_word (shown cs x)) (value_word (shown cs x)) ≡ Some (shown cs x)

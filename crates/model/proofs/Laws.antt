@@ -24,10 +24,10 @@ not_free t law = ap cell_free (no_type t law)
 
 pointer_entry : (e before : Entry) → class_by e before ≡ Pointer → e ≡ P
 pointer_entry P before is = refl
-pointer_entry (Code k) before is = let z : ◌≡◌ {A = ℕ} 0 1 = cc in absurd (omega arith)
-pointer_entry Z P is = let z : ◌≡◌ {A = ℕ} 0 1 = cc in absurd (omega arith)
-pointer_entry Z Z is = let z : ◌≡◌ {A = ℕ} 0 1 = cc in absurd (omega arith)
-pointer_entry Z (Code k) is = let z : ◌≡◌ {A = ℕ} 0 1 = cc in absurd (omega arith)
+pointer_entry (Code k) before is = absurd cc
+pointer_entry Z P is = absurd cc
+pointer_entry Z Z is = absurd cc
+pointer_entry Z (Code k) is = absurd cc
 
 back : (j : ℕ) → suc j - 1 ≡ j
 back j = omega arith

@@ -40,10 +40,10 @@ blank_said t cs w p (Typed c) zero_word = rw zero_word
 blank_said t cs w p SecondHalf zero_word = refl
 
 blank_no_cell : (k : Class) (l : ℕ) → blank_word k ≡ value (cell l) → ⊥
-blank_no_cell Plain l e = let z : ◌≡◌ {A = ℕ} 0 1 = cc in omega arith
-blank_no_cell Pointer l e = let z : ◌≡◌ {A = ℕ} 0 1 = cc in omega arith
-blank_no_cell (Typed d) l e = let z : ◌≡◌ {A = ℕ} 0 1 = cc in omega arith
-blank_no_cell SecondHalf l e = let z : ◌≡◌ {A = ℕ} 0 1 = cc in omega arith
+blank_no_cell Plain l e = cc
+blank_no_cell Pointer l e = cc
+blank_no_cell (Typed d) l e = cc
+blank_no_cell SecondHalf l e = cc
 
 module _ (t : Types) (b : Model) (w w' : List ℕ) (rs : List HoldRecord) (h c a : ℕ) (law : Lawful t) (ag : Agrees t b w rs) (inside : fits t (length w) c a ≡ true) (apart : (k q : ℕ) → Reached b k → Covers t b.cells k q → a ≤ q → q < a + width t c → ⊥) (cut : Cleared t b w w' a (width t c)) where
   abbrev pub cs : List Made
@@ -85,7 +85,7 @@ module _ (t : Types) (b : Model) (w w' : List ℕ) (rs : List HoldRecord) (h c a
   no_edge j l e =
       elim (cases_lt j (width t c)) [
         | inl lt ↦ blank_no_cell (class_of t c (suc j)) l (sym (new_word j lt) ∙ e)
-        | inr past ↦ let p = new_past j past in let z : ◌≡◌ {A = ℕ} 0 1 = cc in omega arith
+        | inr past ↦ let p = new_past j past in cc
       ]
 
   -- a cell that is reached now was reached before, or is the new one
@@ -156,7 +156,7 @@ module _ (t : Types) (b : Model) (w w' : List ℕ) (rs : List HoldRecord) (h c a
         ∙ sym (map-set (shown_hold cs') b.holds h (held (cell new)));
     kinds = λ i d x e. elim (hold_cases b.holds h i (held (immediate d x)) (held (cell new)) e) [
       | inl old ↦ ag.kinds i d x old
-      | inr is ↦ let z : ◌≡◌ {A = ℕ} 0 1 = cc in absurd (omega arith)
+      | inr is ↦ absurd cc
     ];
     tidy = record {
       inside = λ k r. (fine k r).0;

@@ -85,10 +85,10 @@ root_at cs (x ∷ hs) zero = refl
 root_at cs (x ∷ hs) (suc h) = root_at cs hs h
 
 root_cell : (cs : List Made) (x : Hold) (c a : ℕ) → root_of (shown_hold cs x) ≡ Cell c a → (k : ℕ) × (x ≡ held (cell k)) × (c ≡ code_of cs k) × (a ≡ address_of cs k)
-root_cell cs free c a e = let z : ◌≡◌ {A = ℕ} 0 1 = cc in absurd (omega arith)
-root_cell cs (held nothing) c a e = let z : ◌≡◌ {A = ℕ} 0 1 = cc in absurd (omega arith)
+root_cell cs free c a e = absurd cc
+root_cell cs (held nothing) c a e = absurd cc
 root_cell cs (held (cell k)) c a e = (k, refl, cc, cc)
-root_cell cs (held (immediate k x)) c a e = let z : ◌≡◌ {A = ℕ} 0 1 = cc in absurd (omega arith)
+root_cell cs (held (immediate k x)) c a e = absurd cc
 
 pub holds_roots : (cs : List Made) (hs : List Hold) → RootsOf cs (InHolds hs) (roots (map (shown_hold cs) hs))
 holds_roots cs hs = record {

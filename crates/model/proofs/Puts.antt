@@ -46,7 +46,7 @@ pointer_others t w c a j x y i law is other =
     (λ pointer. both_other w (a + j) x y (suc (a + i)) (λ e.
     let next : suc i ≡ j = omega arith in
     let half : class_of t c (suc j) ≡ SecondHalf = ap (λ z. class_of t c (suc z)) (sym next) ∙ second_half t c (suc i) law pointer in
-    let z : ◌≡◌ {A = ℕ} 0 1 = cc in omega arith) (λ e. other (omega arith)))
+    cc) (λ e. other (omega arith)))
 
 -- one word is written that is no second half
 module _ (t : Types) (w : List ℕ) (c a j n : ℕ) (law : Lawful t) (lt : j < width t c) where
@@ -70,13 +70,13 @@ set_stands t b w rs k j n law rk lt is st =
     let room : a + j < length w = omega (arith, lies.within) in
     let w' : List ℕ = set w (a + j) n in
     write_stands t b w rs law st k j (number n) rk lt
-    (λ l e. let z : ◌≡◌ {A = ℕ} 0 1 = cc in absurd (omega arith))
+    (λ l e. absurd cc)
     w' (length-set w (a + j) n)
     (λ q out. one_other t w c a j n law lt q (λ lo hi. out (lo, hi)))
     (said_at t w' c a j
     ∙ ap (said_by t w' (a + j)) is
     ∙ rw (get_or-set_same w (a + j) n 0 room) refl)
-    (λ i other lti. one_others t w c a j n law lt (λ half. let z : ◌≡◌ {A = ℕ} 0 1 = cc in omega arith) i other)
+    (λ i other lti. one_others t w c a j n law lt (λ half. cc) i other)
 
 module _ (t : Types) (b : Model) (w : List ℕ) (rs : List HoldRecord) (g k j : ℕ) (x : Value) (law : Lawful t) (rk : Reached b k) (lt : j < width t (code_of b.cells k)) (has : hold_of b g ≡ held x) (st : Stands t b w rs) where
   fit : (l : ℕ) → x ≡ cell l → fits t (length w) (code_of b.cells l) (address_of b.cells l) ≡ true
@@ -104,7 +104,7 @@ module _ (t : Types) (b : Model) (w : List ℕ) (rs : List HoldRecord) (g k j : 
   typed_said : (d : ℕ) (y : Value) → takes (has_value b.cells y) (Typed d) ≡ true → ((l : ℕ) → y ≡ cell l → fits t (length w) (code_of b.cells l) (address_of b.cells l) ≡ true) → typed_says t (length w) d (value_word (shown b.cells y)) ≡ Some (shown b.cells y)
   typed_said d nothing ok in_heap = refl
   typed_said d (cell l) ok in_heap = rw (← (eqb-true (code_of b.cells l) d ok)) (typed_says_cell t (length w) (code_of b.cells l) (address_of b.cells l) (in_heap l refl))
-  typed_said d (immediate c n) ok in_heap = let z : ◌≡◌ {A = ℕ} 0 1 = cc in absurd (omega arith)
+  typed_said d (immediate c n) ok in_heap = absurd cc
 
   put_typed : (d : ℕ) → class_of t (code_of b.cells k) (suc j) ≡ Typed d → takes (has_value b.cells x) (Typed d) ≡ true → Stands t (with_word b k j (value x)) (with_content w (address_of b.cells k + j) (Typed d) (shown b.cells x)) rs
   put_typed d is ok =
@@ -121,13 +121,13 @@ module _ (t : Types) (b : Model) (w : List ℕ) (rs : List HoldRecord) (g k j : 
       (said_at t w' c a j
       ∙ ap (said_by t w' (a + j)) is
       ∙ ap content (rw (get_or-set_same w (a + j) n 0 room, length-set w (a + j) n) (typed_said d x ok fit)))
-      (λ i other lti. one_others t w c a j n law lt (λ half. let z : ◌≡◌ {A = ℕ} 0 1 = cc in omega arith) i other)
+      (λ i other lti. one_others t w c a j n law lt (λ half. cc) i other)
 
   put_by : (K : Class) → class_of t (code_of b.cells k) (suc j) ≡ K → takes (has_value b.cells x) K ≡ true → Stands t (with_word b k j (value x)) (with_content w (address_of b.cells k + j) K (shown b.cells x)) rs
-  put_by Plain is ok = let z : ◌≡◌ {A = ℕ} 0 1 = cc in absurd (omega arith)
+  put_by Plain is ok = absurd cc
   put_by Pointer is ok = put_pointer is
   put_by (Typed d) is ok = put_typed d is ok
-  put_by SecondHalf is ok = let z : ◌≡◌ {A = ℕ} 0 1 = cc in absurd (omega arith)
+  put_by SecondHalf is ok = absurd cc
 
 -- what a hold has is put into a pointer or a typed word that takes it
 pub put_stands : (t : Types) (b : Model) (w : List ℕ) (rs : List HoldRecord) (g k j : ℕ) (x : Value) → Lawful t → Reached b k → j < width t (code_of b.cells k) → hold_of b g ≡ held x → takes (has_value b.cells x) (class_of t (code_of b.cells k) (suc j)) ≡ true → Stands t b w rs → Stands t (with_word b k j (value x)) (with_content w (address_of b.cells k + j) (class_of t (code_of b.cells k) (suc j)) (shown b.cells x)) rs

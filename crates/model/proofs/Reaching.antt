@@ -34,19 +34,19 @@ followed_by t w p SecondHalf = refl
 
 target : (cs : List Made) (x : Word) (c a : ℕ) → child_of (shown_word cs x) ≡ Cell c a → (l : ℕ) × (x ≡ value (cell l)) × (c ≡ code_of cs l) × (a ≡ address_of cs l)
 unfolding child_of
-target cs (number x) c a e = let z : ◌≡◌ {A = ℕ} 0 1 = cc in absurd (omega arith)
-target cs second c a e = let z : ◌≡◌ {A = ℕ} 0 1 = cc in absurd (omega arith)
-target cs (value nothing) c a e = let z : ◌≡◌ {A = ℕ} 0 1 = cc in absurd (omega arith)
+target cs (number x) c a e = absurd cc
+target cs second c a e = absurd cc
+target cs (value nothing) c a e = absurd cc
 target cs (value (cell l)) c a e = (l, refl, cc, cc)
-target cs (value (immediate k x)) c a e = let z : ◌≡◌ {A = ℕ} 0 1 = cc in absurd (omega arith)
+target cs (value (immediate k x)) c a e = absurd cc
 
 unbroken : (cs : List Made) (x : Word) → child_of (shown_word cs x) ≡ Misfit → ⊥
 unfolding child_of
-unbroken cs (number x) e = let z : ◌≡◌ {A = ℕ} 0 1 = cc in omega arith
-unbroken cs second e = let z : ◌≡◌ {A = ℕ} 0 1 = cc in omega arith
-unbroken cs (value nothing) e = let z : ◌≡◌ {A = ℕ} 0 1 = cc in omega arith
-unbroken cs (value (cell l)) e = let z : ◌≡◌ {A = ℕ} 0 1 = cc in omega arith
-unbroken cs (value (immediate k x)) e = let z : ◌≡◌ {A = ℕ} 0 1 = cc in omega arith
+unbroken cs (number x) e = cc
+unbroken cs second e = cc
+unbroken cs (value nothing) e = cc
+unbroken cs (value (cell l)) e = cc
+unbroken cs (value (immediate k x)) e = cc
 
 leading : (cs : List Made) (x : Word) (l : ℕ) → x ≡ value (cell l) → child_of (shown_word cs x) ≡ Cell (code_of cs l) (address_of cs l)
 unfolding child_of
@@ -86,8 +86,7 @@ module _ (t : Types) (cs : List Made) (w : List ℕ) (R : ℕ → Type 0) (tidy 
         | inl lt ↦ lt
         | inr past ↦
             let none : word_of cs k j ≡ second = get_or_past (made cs k).words j second (omega (arith, tidy.sized k r)) in
-            let z : ◌≡◌ {A = ℕ} 0 1 = cc in
-            absurd (omega arith)
+            absurd cc
       ]
 
   -- and the other way round

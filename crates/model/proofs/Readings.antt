@@ -1,5 +1,5 @@
 -- What hold records and words say is what the model has.
-use Rattle.std.proofs.Common.{◌≡◌, ℕ, zero, suc, ◌+◌, ◌<◌, true, List, [], ◌∷◌, map, get_or, Some, Option, sym, refl, ap, ◌∙◌, arith}
+use Rattle.std.proofs.Common.{◌≡◌, ℕ, zero, suc, ◌+◌, ◌<◌, true, List, [], ◌∷◌, map, get_or, Some, Option, sym, refl, ap, ◌∙◌}
 use Rattle.layouts.specs.declared.entry.Class.{Class}
 use Rattle.layouts.specs.declared.entry.Class.TheVariants.{Plain, Pointer, Typed, SecondHalf}
 use Rattle.layouts.specs.Types.{Types}
@@ -45,8 +45,8 @@ says_there t b w rs k j ag rk lt = sym (said_at t w (code_of b.cells k) (address
 
 number_shown : (cs : List Made) (x : Word) (n : ℕ) → plain n ≡ shown_word cs x → x ≡ number n
 number_shown cs (number m) n e = cc
-number_shown cs second n e = let z : ◌≡◌ {A = ℕ} 0 1 = cc in absurd (omega arith)
-number_shown cs (value y) n e = let z : ◌≡◌ {A = ℕ} 0 1 = cc in absurd (omega arith)
+number_shown cs second n e = absurd cc
+number_shown cs (value y) n e = absurd cc
 
 -- a plain word has its number
 pub look_agree : (t : Types) (b : Model) (w : List ℕ) (rs : List HoldRecord) (k j : ℕ) → Agrees t b w rs → Reached b k → j < width t (code_of b.cells k) → class_of t (code_of b.cells k) (suc j) ≡ Plain → word_of b.cells k j ≡ number (get_or w (address_of b.cells k + j) 0)
@@ -55,15 +55,15 @@ look_agree t b w rs k j ag rk lt is =
     (sym (ap (said_by t w (address_of b.cells k + j)) is) ∙ says_there t b w rs k j ag rk lt)
 
 content_shown : (cs : List Made) (x : Word) (o : Option Content) → content o ≡ shown_word cs x → (y : Value) × (x ≡ value y) × (o ≡ Some (shown cs y))
-content_shown cs (number m) o e = let z : ◌≡◌ {A = ℕ} 0 1 = cc in absurd (omega arith)
-content_shown cs second o e = let z : ◌≡◌ {A = ℕ} 0 1 = cc in absurd (omega arith)
+content_shown cs (number m) o e = absurd cc
+content_shown cs second o e = absurd cc
 content_shown cs (value y) o e = (y, refl, cc)
 
 reference_shown : (t : Types) (cs : List Made) (w : List ℕ) (p : ℕ) (c : Class) (x : Word) → reference c ≡ true → said_by t w p c ≡ shown_word cs x → (y : Value) × (x ≡ value y) × (says t w p c ≡ Some (shown cs y))
-reference_shown t cs w p Plain x ok e = let z : ◌≡◌ {A = ℕ} 0 1 = cc in absurd (omega arith)
+reference_shown t cs w p Plain x ok e = absurd cc
 reference_shown t cs w p Pointer x ok e = content_shown cs x (says t w p Pointer) e
 reference_shown t cs w p (Typed d) x ok e = content_shown cs x (says t w p (Typed d)) e
-reference_shown t cs w p SecondHalf x ok e = let z : ◌≡◌ {A = ℕ} 0 1 = cc in absurd (omega arith)
+reference_shown t cs w p SecondHalf x ok e = absurd cc
 
 -- a pointer or a typed word says its value
 pub fetch_agree : (t : Types) (b : Model) (w : List ℕ) (rs : List HoldRecord) (k j : ℕ) → Agrees t b w rs → Reached b k → j < width t (code_of b.cells k) → reference (class_of t (code_of b.cells k) (suc j)) ≡ true → (x : Value) × (word_of b.cells k j ≡ value x) × (says t w (address_of b.cells k + j) (class_of t (code_of b.cells k) (suc j)) ≡ Some (shown b.cells x))

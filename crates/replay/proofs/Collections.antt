@@ -18,7 +18,7 @@ use Rattle.replay.specs.declared.call.Call.{Call}
 use Rattle.replay.specs.declared.call.Answer.{Answer}
 use Rattle.replay.specs.declared.call.Answer.TheVariants.{Number}
 use Rattle.replay.specs.States.{State, answer_of}
-use Rattle.replay.specs.Steps.{CallStep, accepted, refused}
+use Rattle.replay.specs.Steps.{CallStep, after_mark, after_sweep}
 use Rattle.replay.specs.Table.{mark_due}
 use Rattle.replay.specs.Right.{CallRight}
 use Rattle.replay.specs.Promise.{Sound}
@@ -30,7 +30,7 @@ marks_left t b w rs m' r st made =
     let done = mark_done t b w rs st.agrees made.visits made.left made.ending made.laws in
     ap length (made.kept_marks ∙ ap (kept (length w) made.left) done) ∙ made.laws.long
 
-module _ (t : Types) {S : Type 0} (step : S → Visit → Option S) (P : ℕ) (b : Model) (σ σ' : State) (a : Answer) (d : Call S) (so : Sound t b σ) where
+module _ (t : Types) {S : Type 0} (step : S → Visit → Option S) (P : ℕ) (b : Model) (σ σ' : State) (a : Result Answer Refusal) (d : Call S) (so : Sound t b σ) where
   abbrev L : ℕ
   L = length σ.words
 
@@ -47,7 +47,7 @@ module _ (t : Types) {S : Type 0} (step : S → Visit → Option S) (P : ℕ) (b
       by (Some f) e =
           let s = x.3.related.0.small f e in (
             due_refused _ f a _ (due (Some f) e) (x.3.is ∙ ap (answer_of Number) s.0),
-            kept_sound t b σ σ' so x.2.0 x.2.1 (ap length s.1 ∙ long) (not_marked σ' _ (x.3.related.1 ∙ ap accepted s.0)),
+            kept_sound t b σ σ' so x.2.0 x.2.1 (ap length s.1 ∙ long) (not_marked σ' _ (x.3.related.1 ∙ ap after_mark s.0)),
           )
       by None e =
           let made = x.3.related.0.marked e in
@@ -60,7 +60,7 @@ module _ (t : Types) {S : Type 0} (step : S → Visit → Option S) (P : ℕ) (b
   survey_sim x = by x.3.result x.3.is x.3.related
     where
       by : (r : Result ℕ Refusal) → a ≡ answer_of Number r → Surveys L σ.marks r → CallRight t step P b Survey a σ' d × Sound t b σ'
-      by (Err f) is y = let due = y.0 in let none = so.memory in let z : ◌≡◌ {A = ℕ} 0 1 = cc in absurd (omega arith)
+      by (Err f) is y = let due = y.0 in let none = so.memory in absurd cc
       by (Ok n) is y = (
         (n, is, subst₂ (λ k N. sets.Number (SpareIn t b k) N) (long ∙ ap (λ (s : State). length s.words) (sym x.2)) (sym y.1) (survey t b σ.marks (so.marked x.0))),
         subst (Sound t b) (sym x.2) so,
@@ -72,8 +72,8 @@ module _ (t : Types) {S : Type 0} (step : S → Visit → Option S) (P : ℕ) (b
   pub sweep_sim : Lawful t → CallStep t step P Sweep σ a σ' d → CallRight t step P b Sweep a σ' d × Sound t b σ'
   sweep_sim law x = by x.3.result x.3.is x.3.related.0 x.3.related.1
     where
-      by : (r : Result ℕ Refusal) → a ≡ answer_of Number r → Sweeps σ.words σ.marks σ'.words σ'.marks r → σ'.marked ≡ refused r → CallRight t step P b Sweep a σ' d × Sound t b σ'
-      by (Err f) is y mode = let due = y.0 in let none = so.memory in let z : ◌≡◌ {A = ℕ} 0 1 = cc in absurd (omega arith)
+      by : (r : Result ℕ Refusal) → a ≡ answer_of Number r → Sweeps σ.words σ.marks σ'.words σ'.marks r → σ'.phase ≡ after_sweep r → CallRight t step P b Sweep a σ' d × Sound t b σ'
+      by (Err f) is y mode = let due = y.0 in let none = so.memory in absurd cc
       by (Ok n) is y mode =
           let marks = so.marked x.0 in
           let swept = y.1.1 in

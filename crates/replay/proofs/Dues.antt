@@ -1,6 +1,7 @@
 -- The refusal table, read on the hold records, is the table read on the model.
 use Rattle.std.proofs.Common.{◌≡◌, ℕ, suc, ◌-◌, ◌<◌, ◌≤◌, Bool, true, false, List, [], ◌∷◌, ◌++◌, length, Some, None, Option, sym, refl, ap, ◌∙◌, arith}
 use mathlib.Core.Path.{fun_ext}
+use Rattle.std.specs.List.{AllByRecursion}
 use Rattle.std.specs.Option.{option_or}
 use Rattle.std.proofs.lemmas.Bool.{and_parts, leb-true}
 use Rattle.refusals.specs.declared.refusal.Refusal.{Refusal}
@@ -19,32 +20,28 @@ use Rattle.model.proofs.Readings.{at_agree, reads_agree, fetch_agree}
 use Rattle.replay.specs.declared.call.CellCall.TheVariants.{Take, Release, Note, Copy, Look, Put, Fetch}
 use Rattle.replay.specs.Table.{cell_due}
 
--- no row of the list is due
-abbrev pub Nones : List (Option Refusal) → Type 0
-Nones [] = Unit {0}
-Nones (x ∷ xs) = (x ≡ None) × Nones xs
-
 none_of : (x y : Option Refusal) → option_or x y ≡ None → (x ≡ None) × (y ≡ None)
 none_of None y e = (refl, e)
-none_of (Some f) y e = let z : ◌≡◌ {A = ℕ} 0 1 = cc in absurd (omega arith)
+none_of (Some f) y e = absurd cc
 
-pub nones : (xs : List (Option Refusal)) → first_due xs ≡ None → Nones xs
+-- no row of the list is due
+pub nones : (xs : List (Option Refusal)) → first_due xs ≡ None → AllByRecursion (λ (o : Option Refusal). o ≡ None) xs
 nones [] e = tt
 nones (x ∷ xs) e = let p = none_of x (first_due xs) e in (p.0, nones xs p.1)
 
 pub unless_none : (b : Bool) (f : Refusal) → unless b f ≡ None → b ≡ true
 unless_none true f e = refl
-unless_none false f e = let z : ◌≡◌ {A = ℕ} 0 1 = cc in absurd (omega arith)
+unless_none false f e = absurd cc
 
 pub held_of : (cs : List Made) (y : Hold) → is_held (has_hold cs y) ≡ true → (x : Value) × (y ≡ held x)
-held_of cs free e = let z : ◌≡◌ {A = ℕ} 0 1 = cc in absurd (omega arith)
+held_of cs free e = absurd cc
 held_of cs (held x) e = (x, refl)
 
 pub cell_of : (cs : List Made) (y : Hold) → is_cell (has_hold cs y) ≡ true → (k : ℕ) × (y ≡ held (cell k))
-cell_of cs free e = let z : ◌≡◌ {A = ℕ} 0 1 = cc in absurd (omega arith)
-cell_of cs (held nothing) e = let z : ◌≡◌ {A = ℕ} 0 1 = cc in absurd (omega arith)
+cell_of cs free e = absurd cc
+cell_of cs (held nothing) e = absurd cc
 cell_of cs (held (cell k)) e = (k, refl)
-cell_of cs (held (immediate c x)) e = let z : ◌≡◌ {A = ℕ} 0 1 = cc in absurd (omega arith)
+cell_of cs (held (immediate c x)) e = absurd cc
 
 -- holds that row 3 wants held
 pub held_row : (b : Model) (h : ℕ) (hs : List ℕ) → row_3 true (reading b) (h ∷ hs) ≡ None → ((x : Value) × (hold_of b h ≡ held x)) × (row_3 true (reading b) hs ≡ None)

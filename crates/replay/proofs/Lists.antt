@@ -1,6 +1,7 @@
 -- Every list of calls on a new heap keeps the promise.
-use Rattle.std.proofs.Common.{◌≡◌, ℕ, ◌-◌, ◌*◌, ◌/◌, ◌%◌, ◌≤◌, List, [], ◌∷◌, length, replicate, None, Option, refl, ap, ◌∙◌, arith}
+use Rattle.std.proofs.Common.{◌≡◌, ℕ, ◌-◌, ◌*◌, ◌/◌, ◌%◌, ◌≤◌, List, [], ◌∷◌, length, replicate, None, Option, Result, refl, ap, ◌∙◌, arith}
 use lib.ListN.{length-replicate}
+use Rattle.refusals.specs.declared.refusal.Refusal.{Refusal}
 use Rattle.layouts.specs.Types.{Types, Lawful}
 use Rattle.calls.specs.Rows.{row_1}
 use Rattle.scan.specs.Visits.{Visit}
@@ -56,7 +57,7 @@ new_sound t L m e =
     (memory_kept L (length m) (length (new_words L)) (length m) e (new_long L two) (marks_long L (length m) e)) refl
 
 module _ (t : Types) {S : Type 0} (step : S → Visit → Option S) (P : ℕ) (law : Lawful t) where
-  sim_call : (b : Model) (σ σ' : State) (c : Call S) (a : Answer) (d : Call S) → Sound t b σ → steps.CallStep t step P c σ a σ' d → CallRight t step P b c a σ' d × Sound t (call_told t b c a) σ'
+  sim_call : (b : Model) (σ σ' : State) (c : Call S) (a : Result Answer Refusal) (d : Call S) → Sound t b σ → steps.CallStep t step P c σ a σ' d → CallRight t step P b c a σ' d × Sound t (call_told t b c a) σ'
   sim_call b σ σ' (Cell c) a d so x =
       let s = cell_sim t b c σ.words σ'.words σ.records σ'.records a law so.stands so.holds x.3 in
       let marks : length σ'.marks ≡ length σ.words = ap length x.2 ∙ marks_long (length σ.words) (length σ.marks) so.memory in (

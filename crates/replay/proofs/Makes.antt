@@ -1,5 +1,5 @@
 -- What making a cell answers and leaves, told by the model.
-use Rattle.std.proofs.Common.{◌≡◌, ℕ, ◌+◌, ◌-◌, ◌<◌, ◌≤◌, min, true, false, List, [], ◌∷◌, length, get_or, set, Some, None, Ok, Err, Option, Result, sym, refl, ap, ◌∙◌, subst, subst₂, inl, inr, arith, length-set, rules}
+use Rattle.std.proofs.Common.{◌≡◌, ℕ, ◌+◌, ◌-◌, ◌<◌, ◌≤◌, min, true, List, [], ◌∷◌, length, get_or, set, Some, None, Ok, Err, Option, Result, sym, refl, ap, ◌∙◌, subst, subst₂, inl, inr, arith, length-set, rules}
 use lib.ListN.{length-replicate}
 use Rattle.std.specs.Option.{option_or}
 use Rattle.std.proofs.lemmas.Bool.{cases_eq}
@@ -27,7 +27,8 @@ use Rattle.model.proofs.Cuts.{make_stands}
 use Rattle.replay.specs.declared.call.Call.TheVariants.{Make}
 use Rattle.replay.specs.declared.call.Call.{Call}
 use Rattle.replay.specs.declared.call.Answer.{Answer}
-use Rattle.replay.specs.declared.call.Answer.TheVariants.{Done, Told, Number, Refused}
+use Rattle.replay.specs.declared.call.Answer.TheVariants.{Done, Told, Number}
+use Rattle.replay.specs.declared.call.Phase.TheVariants.{Open}
 use Rattle.replay.specs.States.{State, answer_of}
 use Rattle.replay.specs.Steps.{CallStep}
 use Rattle.replay.specs.Telling.{make_told}
@@ -70,7 +71,7 @@ given_long w v n a g =
     ]
 
 not_broken : (q : ℕ) → proper ≡ broken q → ⊥
-not_broken q e = let z : ◌≡◌ {A = ℕ} 0 1 = cc in omega arith
+not_broken q e = cc
 
 module _ (t : Types) (b : Model) (w : List ℕ) (rs : List HoldRecord) (h c : ℕ) (law : Lawful t) (st : Stands t b w rs) where
   -- what is right of a making that got so far
@@ -92,8 +93,7 @@ module _ (t : Types) (b : Model) (w : List ℕ) (rs : List HoldRecord) (h c : �
       absurd (not_broken q (free_once w 0 1 st.beside.runs none.runs proper (broken q) st.beside.reads none.reads).1)
   found some (broken_content none (stopped {m = m} {f = f} marking)) =
       let ok = (marked_all t b w rs st.agrees m (Err f) marking).1 in
-      let z : ◌≡◌ {A = ℕ} 0 1 = cc in
-      absurd (omega arith)
+      absurd cc
   found some (collected {w' = v} {a = a} none (swept {m = m} {u = u} {k = k} marking sweep) g) =
       let marks = (marked_all t b w rs st.agrees m (Ok k) marking).3 in
       given u v a (sweep_stands t b w m u rs law st.agrees marks sweep) sweep.long g
@@ -119,13 +119,13 @@ made_words t rs h c e =
     let free = nones (row_2 (h ∷ []) ∷ row_3 true (reads rs) (h ∷ []) ∷ row_4 t c ∷ row_5_cell t c ∷ []) e in
     has_words t c free.1.1.1.0
 
-told_holds : (t : Types) (b : Model) (h c : ℕ) (a : Answer) → length (make_told t b h c a).holds ≡ length b.holds
-told_holds t b h c Done = refl
-told_holds t b h c (Told k) = refl
-told_holds t b h c (Number a) = length-set b.holds h _
-told_holds t b h c (Refused f) = refl
+told_holds : (t : Types) (b : Model) (h c : ℕ) (a : Result Answer Refusal) → length (make_told t b h c a).holds ≡ length b.holds
+told_holds t b h c (Ok Done) = refl
+told_holds t b h c (Ok (Told k)) = refl
+told_holds t b h c (Ok (Number a)) = length-set b.holds h _
+told_holds t b h c (Err f) = refl
 
-module _ (t : Types) {S : Type 0} (step : S → Visit → Option S) (P : ℕ) (b : Model) (σ σ' : State) (a : Answer) (d : Call S) (so : Sound t b σ) (law : Lawful t) (h c p : ℕ) where
+module _ (t : Types) {S : Type 0} (step : S → Visit → Option S) (P : ℕ) (b : Model) (σ σ' : State) (a : Result Answer Refusal) (d : Call S) (so : Sound t b σ) (law : Lawful t) (h c p : ℕ) where
   abbrev L : ℕ
   L = length σ.words
 
@@ -145,7 +145,7 @@ module _ (t : Types) {S : Type 0} (step : S → Visit → Option S) (P : ℕ) (b
       ∙ ap (option_or (memory_due L M (min p P))) (ap (rows t h c) (sym (readings t b σ.words σ.records so.stands.agrees)))
 
   -- a refusal that leaves words and holds
-  refused : (f : Refusal) → a ≡ Refused f → σ'.words ≡ σ.words → σ'.records ≡ σ.records → length σ'.marks ≡ L → σ'.marked ≡ false → option_or (memory_due L M (min p P)) (calls.make_due t σ.records h c) ≡ Some f → Wanted
+  refused : (f : Refusal) → a ≡ Err f → σ'.words ≡ σ.words → σ'.records ≡ σ.records → length σ'.marks ≡ L → σ'.phase ≡ Open → option_or (memory_due L M (min p P)) (calls.make_due t σ.records h c) ≡ Some f → Wanted
   refused f is ws rs ms mode e = (
     due_refused _ f a _ (due (ap length ws) ∙ e) is,
     subst (λ x. Sound t (make_told t b h c x) σ') (sym is) (kept_sound t b σ σ' so ws rs ms (not_marked σ' _ mode)),

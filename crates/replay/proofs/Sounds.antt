@@ -1,5 +1,5 @@
 -- When a heap is sound, and what a call answers by the refusal that is due.
-use Rattle.std.proofs.Common.{◌≡◌, ℕ, ◌+◌, ◌≤◌, true, false, List, [], ◌∷◌, length, Some, None, Option, sym, ap, ◌∙◌, ap₂, subst₂, inl, inr, arith}
+use Rattle.std.proofs.Common.{◌≡◌, ℕ, ◌+◌, ◌≤◌, List, [], ◌∷◌, length, Some, None, Err, Option, Result, sym, ap, ◌∙◌, ap₂, subst₂, inl, inr, arith}
 use Rattle.std.proofs.lemmas.Bool.Decides.{nat_tests}
 use Rattle.refusals.specs.declared.refusal.Refusal.{Refusal}
 use Rattle.layouts.specs.Types.{Types}
@@ -9,7 +9,7 @@ use Rattle.model.specs.Model.{Model, Reached}
 use Rattle.model.specs.MarksExactly.{MarksExactly}
 use Rattle.model.specs.Spares.{InRuns, Stands}
 use Rattle.replay.specs.declared.call.Answer.{Answer}
-use Rattle.replay.specs.declared.call.Answer.TheVariants.{Refused}
+use Rattle.replay.specs.declared.call.Phase.TheVariants.{Open, Marked}
 use Rattle.replay.specs.States.{State}
 use Rattle.replay.specs.Right.{ByDue}
 use Rattle.replay.specs.Promise.{RunsApart, Sound}
@@ -28,7 +28,7 @@ runs_apart w p e (span a s ∷ runs) f = (
 )
 
 -- a heap is sound where it stands with the model
-pub sound : (t : Types) (b : Model) (σ : State) → Stands t b σ.words σ.records → (σ.marked ≡ true → MarksExactly t b.cells (Reached b) σ.marks) → row_1 (length σ.words) (length σ.marks) ≡ None → length b.holds ≡ 64 → Sound t b σ
+pub sound : (t : Types) (b : Model) (σ : State) → Stands t b σ.words σ.records → (σ.phase ≡ Marked → MarksExactly t b.cells (Reached b) σ.marks) → row_1 (length σ.words) (length σ.marks) ≡ None → length b.holds ≡ 64 → Sound t b σ
 sound t b σ st marks memory holds = record {
   stands = st;
   apart = runs_apart σ.words 0 1 st.beside.runs st.beside.reads;
@@ -37,8 +37,8 @@ sound t b σ st marks memory holds = record {
   holds = holds;
 }
 
-pub not_marked : (σ : State) (X : Type 0) → σ.marked ≡ false → σ.marked ≡ true → X
-not_marked σ X unmarked marked = let z : ◌≡◌ {A = ℕ} 0 1 = cc in absurd (omega arith)
+pub not_marked : (σ : State) (X : Type 0) → σ.phase ≡ Open → σ.phase ≡ Marked → X
+not_marked σ X unmarked marked = absurd cc
 
 -- there are as many marks as words
 pub marks_long : (L M : ℕ) → row_1 L M ≡ None → M ≡ L
@@ -48,16 +48,16 @@ pub memory_kept : (L M L' M' : ℕ) → row_1 L M ≡ None → L' ≡ L → M' �
 memory_kept L M L' M' e same long = ap₂ row_1 same (long ∙ sym (marks_long L M e)) ∙ e
 
 -- where words and holds are as they were
-pub kept_sound : (t : Types) (b : Model) (σ σ' : State) → Sound t b σ → σ'.words ≡ σ.words → σ'.records ≡ σ.records → length σ'.marks ≡ length σ.words → (σ'.marked ≡ true → MarksExactly t b.cells (Reached b) σ'.marks) → Sound t b σ'
+pub kept_sound : (t : Types) (b : Model) (σ σ' : State) → Sound t b σ → σ'.words ≡ σ.words → σ'.records ≡ σ.records → length σ'.marks ≡ length σ.words → (σ'.phase ≡ Marked → MarksExactly t b.cells (Reached b) σ'.marks) → Sound t b σ'
 kept_sound t b σ σ' so ws rs ms marks =
     sound t b σ' (subst₂ (λ w r. Stands t b w r) (sym ws) (sym rs) so.stands) marks
     (memory_kept (length σ.words) (length σ.marks) (length σ'.words) (length σ'.marks) so.memory (ap length ws) ms) so.holds
 
 -- what is right by what is due
-pub due_refused : (o : Option Refusal) (f : Refusal) (a : Answer) (X : Type 0) → o ≡ Some f → a ≡ Refused f → ByDue o a X
-due_refused None f a X due is = let z : ◌≡◌ {A = ℕ} 0 1 = cc in absurd (omega arith)
+pub due_refused : (o : Option Refusal) (f : Refusal) (a : Result Answer Refusal) (X : Type 0) → o ≡ Some f → a ≡ Err f → ByDue o a X
+due_refused None f a X due is = absurd cc
 due_refused (Some g) f a X due is = cc
 
-pub due_none : (o : Option Refusal) (a : Answer) (X : Type 0) → o ≡ None → X → ByDue o a X
+pub due_none : (o : Option Refusal) (a : Result Answer Refusal) (X : Type 0) → o ≡ None → X → ByDue o a X
 due_none None a X due right = right
-due_none (Some g) a X due right = let z : ◌≡◌ {A = ℕ} 0 1 = cc in absurd (omega arith)
+due_none (Some g) a X due right = absurd cc

@@ -21,7 +21,7 @@ use Rattle.model.proofs.Marked.{trace_unbroken, trace_visits, trace_full}
 use Rattle.replay.specs.declared.call.Call.TheVariants.{Trace}
 use Rattle.replay.specs.declared.call.Call.{Call}
 use Rattle.replay.specs.declared.call.Answer.{Answer}
-use Rattle.replay.specs.declared.call.Answer.TheVariants.{Number, Refused}
+use Rattle.replay.specs.declared.call.Answer.TheVariants.{Number}
 use Rattle.replay.specs.States.{State, Answered, answer_of}
 use Rattle.replay.specs.Steps.{CallStep}
 use Rattle.replay.specs.Table.{trace_due}
@@ -38,7 +38,7 @@ cell_table t b w rs ag h =
 
 -- the scan of the cell that a hold has
 module _ (t : Types) (b : Model) (w : List ℕ) (rs : List HoldRecord) (ag : Agrees t b w rs) (h k : ℕ) (is : hold_of b h ≡ held (cell k)) {S : Type 0} (step : S → Visit → Option S) (s s' : S) where
-  abbrev Shown : Answer → Type 0
+  abbrev Shown : Result Answer Refusal → Type 0
   Shown a = ShownAll t b w step h s s' a ⊎ ShownSome t b w step h s s' a
 
   by_ending : (vs : List Visit) (m' : List ℕ) (e : Ending) → ScanLaws t w step (code_of b.cells k) (address_of b.cells k) (replicate (length w) 0) s vs m' s' e → Shown (answer_of Number (told e (length vs)))
@@ -48,7 +48,7 @@ module _ (t : Types) (b : Model) (w : List ℕ) (rs : List HoldRecord) (ag : Agr
         cells = q.0;
         listed = q.1;
         inspected = rw (← q.2) laws.held;
-        answer = ap Number (ap length q.2 ∙ length-map q.0 _);
+        answer = ap (λ n. Ok (Number n)) (ap length q.2 ∙ length-map q.0 _);
       }
   by_ending vs m' (Err (Broken p)) laws = absurd (trace_unbroken t b w rs ag h k is step s vs m' s' (Err (Broken p)) laws p refl)
   by_ending vs m' (Err (Full a)) laws =
@@ -62,10 +62,10 @@ module _ (t : Types) (b : Model) (w : List ℕ) (rs : List HoldRecord) (ag : Agr
         next_reached = q.next_reached;
         next_new = q.next_new;
         full = q.refused;
-        answer = ap (λ x. Refused (InspectorFull x)) q.next_place;
+        answer = ap (λ x. Err (InspectorFull x)) q.next_place;
       }
 
-module _ (t : Types) {S : Type 0} (step : S → Visit → Option S) (P : ℕ) (b : Model) (σ σ' : State) (a : Answer) (d : Call S) (so : Sound t b σ) (h p : ℕ) (s : S) where
+module _ (t : Types) {S : Type 0} (step : S → Visit → Option S) (P : ℕ) (b : Model) (σ σ' : State) (a : Result Answer Refusal) (d : Call S) (so : Sound t b σ) (h p : ℕ) (s : S) where
   abbrev L : ℕ
   L = length σ.words
 

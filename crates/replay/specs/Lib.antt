@@ -5,3 +5,4 @@ pub mod Table
 pub mod Right
 pub mod Promise
 pub mod Replays
+pub mod Carries

@@ -1,5 +1,5 @@
 -- The promise over every list of calls on a new heap.
-use Rattle.std.specs.Prelude.{◌≡◌, ℕ, true, List, [], ◌∷◌, length, None, Option}
+use Rattle.std.specs.Prelude.{◌≡◌, ℕ, List, [], ◌∷◌, length, None, Option}
 use Rattle.layouts.specs.Types.{Types, Lawful}
 use Rattle.calls.specs.Rows.{row_1}
 use Rattle.scan.specs.Visits.{Visit}
@@ -8,6 +8,7 @@ use Rattle.model.specs.Model.{Model, Reached}
 use Rattle.model.specs.MarksExactly.{MarksExactly}
 use Rattle.model.specs.Spares.{InRuns, Stands}
 use Rattle.model.specs.Told.{new_model}
+use Rattle.replay.specs.declared.call.Phase.TheVariants.{Marked}
 use Rattle.replay.specs.States.{State, Event, new_state}
 use Rattle.replay.specs.Steps as steps
 use Rattle.replay.specs.Telling.{told}
@@ -26,7 +27,7 @@ pub record Sound (t : Types) (b : Model) (σ : State) : Type 0 where
   -- no word lies in two free runs
   pub apart : RunsApart stands.beside.runs
   -- in Marked exactly the words of the reached cells are marked
-  pub marked : σ.marked ≡ true → MarksExactly t b.cells (Reached b) σ.marks
+  pub marked : σ.phase ≡ Marked → MarksExactly t b.cells (Reached b) σ.marks
   -- the memory is that of a heap, of 64 holds
   pub memory : row_1 (length σ.words) (length σ.marks) ≡ None
   pub holds : length b.holds ≡ 64

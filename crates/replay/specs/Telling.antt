@@ -1,5 +1,6 @@
 -- What a call and its answer tell the model. Only accepted calls write it.
-use Rattle.std.specs.Prelude.{ℕ, ◌-◌, List, [], ◌∷◌}
+use Rattle.std.specs.Prelude.{ℕ, ◌-◌, List, [], ◌∷◌, Ok, Err, Result}
+use Rattle.refusals.specs.declared.refusal.Refusal.{Refusal}
 use Rattle.layouts.specs.Types.{Types}
 use Rattle.model.specs.Model.{Model, Hold, free, held, nothing, cell, immediate, Word, number, second, value, hold_of, word_of}
 use Rattle.model.specs.Told.{with_hold, with_word, with_new}
@@ -8,7 +9,7 @@ use Rattle.replay.specs.declared.call.CellCall.TheVariants.{Take, Release, Note,
 use Rattle.replay.specs.declared.call.Call.{Call}
 use Rattle.replay.specs.declared.call.Call.TheVariants.{Cell, Make, Trace, Mark, Survey, Unmark, Sweep}
 use Rattle.replay.specs.declared.call.Answer.{Answer}
-use Rattle.replay.specs.declared.call.Answer.TheVariants.{Done, Told, Number, Refused}
+use Rattle.replay.specs.declared.call.Answer.TheVariants.{Done, Told, Number}
 use Rattle.replay.specs.States.{Event}
 
 -- x of the cell that a hold has; y where it has none
@@ -41,20 +42,18 @@ cell_told b (Put h i g) = of_cell (hold_of b h) b (λ k. with_word b k (i - 1) (
 cell_told b (Fetch h i g) = of_cell (hold_of b h) b (λ k. with_hold b g (fetched (word_of b.cells k (i - 1))))
 
 -- nothing is told by a refusal
-abbrev pub unless_refused : Answer → Model → Model → Model
-unless_refused Done b b' = b'
-unless_refused (Told k) b b' = b'
-unless_refused (Number n) b b' = b'
-unless_refused (Refused f) b b' = b
+abbrev pub unless_refused : Result Answer Refusal → Model → Model → Model
+unless_refused (Ok a) b b' = b'
+unless_refused (Err f) b b' = b
 
 -- an accepted make cuts at the address that it answers
-abbrev pub make_told : Types → Model → ℕ → ℕ → Answer → Model
-make_told t b h c Done = b
-make_told t b h c (Told k) = b
-make_told t b h c (Number a) = with_new t b h c a
-make_told t b h c (Refused f) = b
+abbrev pub make_told : Types → Model → ℕ → ℕ → Result Answer Refusal → Model
+make_told t b h c (Ok Done) = b
+make_told t b h c (Ok (Told k)) = b
+make_told t b h c (Ok (Number a)) = with_new t b h c a
+make_told t b h c (Err f) = b
 
-abbrev pub call_told : {S : Type 0} → Types → Model → Call S → Answer → Model
+abbrev pub call_told : {S : Type 0} → Types → Model → Call S → Result Answer Refusal → Model
 call_told t b (Cell c) a = unless_refused a b (cell_told b c)
 call_told t b (Make h c p) a = make_told t b h c a
 call_told t b (Trace h p s) a = b

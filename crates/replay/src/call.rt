@@ -1,6 +1,5 @@
 use calls::holds::Holds;
 use cells::content::Content;
-use refusals::refusal::Refusal;
 
 // A call that reads or writes holds and cells, by hold number.
 #[derive(Clone, Copy)]
@@ -38,20 +37,26 @@ pub enum Call<I> {
     Sweep,
 }
 
-// What a call answers: done, the content that a hold has, a number (of a word, of cells, of words; of a new cell its address), or
-// a refusal.
-#[derive(Clone, Copy)]
+// What an accepted call answers: done, the content that a hold has, or a number (of a word, of cells, of words; of a new cell its
+// address).
+#[derive(Clone, Copy, PartialEq, Eq, Debug)]
 pub enum Answer {
     Done,
     Told(Content),
     Number(u32),
-    Refused(Refusal),
 }
 
-// A list that was run: how many calls were carried out, whether the heap is Marked then, and the holds.
+// The two states of a heap.
+#[derive(Clone, Copy, PartialEq, Eq, Debug)]
+pub enum Phase {
+    Open,
+    Marked,
+}
+
+// A list that was run: how many calls were carried out, the state of the heap then, and the holds.
 #[derive(Drop)]
 pub struct Replayed {
     pub count: usize,
-    pub marked: bool,
+    pub phase: Phase,
     pub holds: Holds,
 }

@@ -1,14 +1,12 @@
-ghost use Rattle.std.specs.Prelude.{◌≡◌, min, Bool, true, false, length, Some, None, MatchOption};
-ghost use Rattle.cells.specs.declared.content.Content.{Content};
-ghost use Rattle.replay.specs.declared.call.Answer.TheVariants.{Told, Number};
-ghost use Rattle.replay.specs.States.{State, answer_of};
-ghost use Rattle.replay.specs.Steps.{CellStep, CallStep, done};
-ghost use Rattle.replay.specs.Replays.{exists_in};
+ghost use Rattle.std.specs.Prelude.{◌≡◌, ℕ, length};
+ghost use Rattle.layouts.specs.Types.{Types};
+ghost use Rattle.replay.specs.declared.call.Phase.TheVariants.{Open, Marked};
+ghost use Rattle.replay.specs.Steps.{CellStep};
+ghost use Rattle.replay.specs.Carries.{Carries, SameMemory, state_of};
 
-use crate::call::{Answer, Call, CellCall};
+use crate::call::{Answer, Call, CellCall, Phase};
 use calls::by_number;
 use calls::holds::Holds;
-use cells::content::Content;
 use making::by_number::make;
 use marking::mark::mark_holds;
 use refusals::refusal::Refusal;
@@ -19,148 +17,135 @@ use sweeping::survey::survey;
 use sweeping::sweep::sweep;
 use tracing::by_number::trace;
 
-fn done_or(res: Result<(), Refusal>) -> Answer
-    ensures { result ≡ answer_of done res }
-{
-    match res {
-        Ok(()) => Answer::Done,
-        Err(refusal) => Answer::Refused(refusal),
-    }
-}
-
-fn number_or(res: Result<u32, Refusal>) -> Answer
-    ensures { result ≡ answer_of Number res }
-{
-    match res {
-        Ok(number) => Answer::Number(number),
-        Err(refusal) => Answer::Refused(refusal),
-    }
-}
-
-fn told_or(res: Result<Content, Refusal>) -> Answer
-    ensures { result ≡ answer_of Told res }
-{
-    match res {
-        Ok(content) => Answer::Told(content),
-        Err(refusal) => Answer::Refused(refusal),
-    }
-}
-
 // A call that reads or writes holds and cells.
 fn cell_call<S: TemplateSource>(
     words: &mut [u32],
     holds: &mut Holds,
     source: &S,
     call: CellCall,
-) -> Answer
+) -> Result<Answer, Refusal>
     ensures { CellStep (S.TemplateSource.meaning source.now) call words.old holds.old.records result words.new holds.new.records }
 {
     match call {
-        CellCall::Take { hold } => done_or(by_number::take(holds, hold)),
-        CellCall::Release { hold } => done_or(by_number::release(holds, hold)),
+        CellCall::Take { hold } => by_number::take(holds, hold).map(|()| Answer::Done),
+        CellCall::Release { hold } => by_number::release(holds, hold).map(|()| Answer::Done),
         CellCall::Note { hold, code, number } => {
-            done_or(by_number::note(holds, source, hold, code, number))
+            by_number::note(holds, source, hold, code, number).map(|()| Answer::Done)
         }
-        CellCall::Copy { from, to } => done_or(by_number::copy(holds, from, to)),
-        CellCall::Tell { hold } => told_or(by_number::tell(holds, hold)),
+        CellCall::Copy { from, to } => by_number::copy(holds, from, to).map(|()| Answer::Done),
+        CellCall::Tell { hold } => by_number::tell(holds, hold).map(Answer::Told),
         CellCall::Look { hold, word } => {
-            number_or(by_number::look(words, holds, source, hold, word))
+            by_number::look(words, holds, source, hold, word).map(Answer::Number)
         }
         CellCall::Set { hold, word, number } => {
-            done_or(by_number::set(words, holds, source, hold, word, number))
+            by_number::set(words, holds, source, hold, word, number).map(|()| Answer::Done)
         }
         CellCall::Put { hold, word, from } => {
-            done_or(by_number::put(words, holds, source, hold, word, from))
+            by_number::put(words, holds, source, hold, word, from).map(|()| Answer::Done)
         }
         CellCall::Fetch { hold, word, to } => {
-            done_or(by_number::fetch(words, holds, source, hold, word, to))
+            by_number::fetch(words, holds, source, hold, word, to).map(|()| Answer::Done)
         }
     }
 }
 
-// The lesser of two lengths: a call is lent no more pending places than there are.
-pub(crate) fn fewer(a: usize, b: usize) -> usize
-    ensures { result ≡ min a b }
-{
-    if a < b { a } else { b }
+// A heap over lent words and marks, with holds of its own, in one of its two states.
+#[derive(Drop)]
+pub(crate) struct Heap<'a> {
+    pub words: &'a mut [u32],
+    pub marks: &'a mut [u8],
+    pub holds: Holds,
+    pub phase: Phase,
 }
 
-// A call in Open, or none where it does not exist there.
-fn in_open<S: TemplateSource, I: Inspector>(
-    words: &mut [u32],
-    marks: &mut [u8],
-    places: &mut [Frame],
-    holds: &mut Holds,
-    source: &S,
-    marked: &mut bool,
-    call: &mut Call<I>,
-) -> Option<Answer>
-    requires { marked.old ≡ false }
-    ensures { MatchOption result ((exists_in false call.old ≡ false) × (words.new ≡ words.old) × (marks.new ≡ marks.old) × (holds.new ≡ holds.old) × (marked.exit.now ≡ marked.entry.now) × (call.new ≡ call.old)) (λ a. CallStep (S.TemplateSource.meaning source.now) I.Inspector.step (length places.old) call.old (record { marked = marked.entry.now; words = words.old; marks = marks.old; records = holds.old.records }) a (record { marked = marked.exit.now; words = words.new; marks = marks.new; records = holds.new.records }) call.new) }
-{
-    match call {
-        Call::Cell(cell) => Some(cell_call(words, holds, source, *cell)),
-        Call::Make {
-            hold,
-            code,
-            pending,
-        } => {
-            let n = fewer(*pending, places.len());
-            Some(number_or(make(words, marks, &mut places[..n], holds, source, *hold, *code)))
-        }
-        Call::Trace {
-            hold,
-            pending,
-            inspector,
-        } => {
-            let n = fewer(*pending, places.len());
-            Some(number_or(trace(
-                words,
-                marks,
-                &mut places[..n],
-                holds,
-                source,
+impl Heap<'_> {
+    // A call in Open, or none where it does not exist there. A call is lent no more pending places than there are.
+    fn in_open<S: TemplateSource, I: Inspector>(
+        &mut self,
+        places: &mut [Frame],
+        source: &S,
+        call: &mut Call<I>,
+    ) -> Option<Result<Answer, Refusal>>
+        requires { self.old.phase ≡ Open }
+        ensures same_memory { SameMemory self.old self.new }
+        ensures carries { Carries (S.TemplateSource.meaning source.now) I.Inspector.step (length places.old) call.old (state_of self.old) result (state_of self.new) call.new }
+    {
+        // Reborrowed here: of a field that is passed on as a shared slice, a proof knows only the length afterwards.
+        let words = &mut *self.words;
+        let marks = &mut *self.marks;
+        let holds = &mut self.holds;
+        match call {
+            Call::Cell(cell) => Some(cell_call(words, holds, source, *cell)),
+            Call::Make {
+                hold,
+                code,
+                pending,
+            } => {
+                let count = (*pending).min(places.len());
+                let lent = &mut places[..count];
+                Some(make(words, marks, lent, holds, source, *hold, *code).map(Answer::Number))
+            }
+            Call::Trace {
+                hold,
+                pending,
                 inspector,
-                *hold,
-            )))
+            } => {
+                let count = (*pending).min(places.len());
+                let lent = &mut places[..count];
+                Some(trace(words, marks, lent, holds, source, inspector, *hold).map(Answer::Number))
+            }
+            Call::Mark { pending } => {
+                let count = (*pending).min(places.len());
+                let lent = &mut places[..count];
+                let marked = mark_holds(words, marks, lent, holds, source);
+                if marked.is_ok() {
+                    self.phase = Phase::Marked;
+                }
+                Some(marked.map(Answer::Number))
+            }
+            Call::Survey | Call::Unmark | Call::Sweep => None,
         }
-        Call::Mark { pending } => {
-            let n = fewer(*pending, places.len());
-            let result = mark_holds(words, marks, &mut places[..n], holds, source);
-            *marked = result.is_ok();
-            Some(number_or(result))
-        }
-        Call::Survey | Call::Unmark | Call::Sweep => None,
     }
-}
 
-// One call, or none where it does not exist in the heap's state.
-pub(crate) fn carry_out<S: TemplateSource, I: Inspector>(
-    words: &mut [u32],
-    marks: &mut [u8],
-    places: &mut [Frame],
-    holds: &mut Holds,
-    source: &S,
-    marked: &mut bool,
-    call: &mut Call<I>,
-) -> Option<Answer>
-    ensures { MatchOption result ((exists_in marked.entry.now call.old ≡ false) × (words.new ≡ words.old) × (marks.new ≡ marks.old) × (holds.new ≡ holds.old) × (marked.exit.now ≡ marked.entry.now) × (call.new ≡ call.old)) (λ a. CallStep (S.TemplateSource.meaning source.now) I.Inspector.step (length places.old) call.old (record { marked = marked.entry.now; words = words.old; marks = marks.old; records = holds.old.records }) a (record { marked = marked.exit.now; words = words.new; marks = marks.new; records = holds.new.records }) call.new) }
-{
-    if !*marked {
-        return in_open(words, marks, places, holds, source, marked, call);
+    // A call in Marked, or none where it does not exist there.
+    fn in_marked<I: Inspector>(&mut self, call: &Call<I>) -> Option<Result<Answer, Refusal>>
+        requires { self.old.phase ≡ Marked }
+        ensures same_memory { SameMemory self.old self.new }
+        ensures carries { (t : Types) (P : ℕ) → Carries t I.Inspector.step P call.now (state_of self.old) result (state_of self.new) call.now }
+    {
+        let words = &mut *self.words;
+        let marks = &mut *self.marks;
+        match call {
+            Call::Survey => Some(survey(words.len(), marks).map(Answer::Number)),
+            Call::Unmark => {
+                marks.fill(0);
+                self.phase = Phase::Open;
+                Some(Ok(Answer::Done))
+            }
+            Call::Sweep => {
+                let swept = sweep(words, marks);
+                if swept.is_ok() {
+                    self.phase = Phase::Open;
+                }
+                Some(swept.map(Answer::Number))
+            }
+            Call::Cell(_) | Call::Make { .. } | Call::Trace { .. } | Call::Mark { .. } => None,
+        }
     }
-    match call {
-        Call::Survey => Some(number_or(survey(words.len(), marks))),
-        Call::Unmark => {
-            marks.fill(0);
-            *marked = false;
-            Some(Answer::Done)
+
+    // One call, or none where it does not exist in the heap's state.
+    pub fn carry_out<S: TemplateSource, I: Inspector>(
+        &mut self,
+        places: &mut [Frame],
+        source: &S,
+        call: &mut Call<I>,
+    ) -> Option<Result<Answer, Refusal>>
+        ensures same_memory { SameMemory self.old self.new }
+        ensures carries { Carries (S.TemplateSource.meaning source.now) I.Inspector.step (length places.old) call.old (state_of self.old) result (state_of self.new) call.new }
+    {
+        match self.phase {
+            Phase::Open => self.in_open(places, source, call),
+            Phase::Marked => self.in_marked(call),
         }
-        Call::Sweep => {
-            let result = sweep(words, marks);
-            *marked = result.is_err();
-            Some(number_or(result))
-        }
-        Call::Cell(_) | Call::Make { .. } | Call::Trace { .. } | Call::Mark { .. } => None,
     }
 }

@@ -2,8 +2,8 @@ ghost use Rattle.std.specs.Prelude.{length};
 ghost use Rattle.replay.specs.Promise.{EveryList};
 ghost use Rattle.replay.specs.Replays.{Replays};
 
-use crate::call::{Answer, Call, Replayed};
-use crate::one::{carry_out, fewer};
+use crate::call::{Answer, Call, Phase, Replayed};
+use crate::one::Heap;
 use calls::holds::Holds;
 use heap::open::format_words;
 use refusals::refusal::Refusal;
@@ -19,44 +19,39 @@ pub fn replay<S: TemplateSource, I: Inspector>(
     marks: &mut [u8],
     places: &mut [Frame],
     calls: &mut [Call<I>],
-    answers: &mut [Answer],
+    answers: &mut [Result<Answer, Refusal>],
 ) -> Result<Replayed, Refusal>
     ensures { Replays (S.TemplateSource.meaning source.now) I.Inspector.step (length places.old) words.old marks.old calls.old answers.old words.new marks.new calls.new answers.new result }
 {
     format_words(words, marks.len())?;
-    let mut holds = Holds::new();
-    let mut marked = false;
-    let most = fewer(calls.len(), answers.len());
+    let mut heap = Heap {
+        words,
+        marks,
+        holds: Holds::new(),
+        phase: Phase::Open,
+    };
+    let most = calls.len().min(answers.len());
+    // By index: of what is written through a `zip` of two `iter_mut`, a proof knows no element.
     for i in 0..most {
-        match carry_out(
-            words,
-            marks,
-            places,
-            &mut holds,
-            source,
-            &mut marked,
-            &mut calls[i],
-        ) {
+        match heap.carry_out(places, source, &mut calls[i]) {
             Some(answer) => answers[i] = answer,
             None => {
                 return Ok(Replayed {
                     count: i,
-                    marked,
-                    holds,
+                    phase: heap.phase,
+                    holds: heap.holds,
                 });
             }
         }
     }
     Ok(Replayed {
         count: most,
-        marked,
-        holds,
+        phase: heap.phase,
+        holds: heap.holds,
     })
 }
 
 // The promise over every list of calls, by itself.
-pub fn every_list<I: Inspector>(_like: &I) -> u8
+pub fn every_list<I: Inspector>()
     ensures { EveryList I.Inspector.step }
-{
-    0
-}
+{}

@@ -56,7 +56,7 @@ mod tests {
             Call::Sweep,
             cell(CellCall::Tell { hold: 0 }),
         ];
-        let mut answers = [Answer::Done; 14];
+        let mut answers = [Ok(Answer::Done); 14];
         let ran = replay(
             &table,
             &mut words,
@@ -66,14 +66,14 @@ mod tests {
             &mut answers,
         )?;
         assert_eq!(rt; ran.count, 12);
-        assert!(rt; matches!(answers[1], Answer::Number(9)));
-        assert!(rt; matches!(answers[3], Answer::Number(7)));
-        assert!(rt; matches!(answers[6], Answer::Number(2)));
-        assert!(rt; matches!(answers[7], Answer::Number(6)));
-        assert!(rt; matches!(answers[8], Answer::Number(6)));
-        assert!(rt; matches!(answers[9], Answer::Number(3)));
-        assert!(rt; matches!(answers[10], Answer::Number(9)));
-        assert!(rt; matches!(answers[11], Answer::Refused(Refusal::HoldState { hold: 1 })));
+        assert!(rt; matches!(answers[1], Ok(Answer::Number(9))));
+        assert!(rt; matches!(answers[3], Ok(Answer::Number(7))));
+        assert!(rt; matches!(answers[6], Ok(Answer::Number(2))));
+        assert!(rt; matches!(answers[7], Ok(Answer::Number(6))));
+        assert!(rt; matches!(answers[8], Ok(Answer::Number(6))));
+        assert!(rt; matches!(answers[9], Ok(Answer::Number(3))));
+        assert!(rt; matches!(answers[10], Ok(Answer::Number(9))));
+        assert!(rt; matches!(answers[11], Err(Refusal::HoldState { hold: 1 })));
         Ok(())
     }
 }

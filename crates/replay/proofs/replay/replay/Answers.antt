@@ -35,7 +35,7 @@ returns-in-None g c =
       row,
       rw (gone.1, gone.2, gone.3, gone.4, calls)
           (ran (g.S.TemplateSource.meaning c.args.source.now) g.I.Inspector.step (length c.args.places.now) (length c.args.words.now) (length c.format_words.new.words) c.args.marks.now c.args.calls.now c.loop-i.calls c.args.answers.now c.loop-i.answers c.loop-i.words c.loop-i.marks c.loop-i.i c.loop-i.marked c.loop-i.holds
-          (g.S.TemplateSource.laws c.args.source.now) row c.format_words.auto.words c.loop-i.invariant.0
+          (g.met.S.TemplateSource.laws c.args.source.now) row c.format_words.auto.words c.loop-i.invariant.0
           (omega (arith, c.fewer-most.ensures, c.loop-i-test.true))
           (inr (λ d. ap (exists_in c.loop-i.marked) (get_or_default c.args.calls.now c.loop-i.i d c.index-calls-i.result (omega (arith, c.fewer-most.ensures, c.loop-i-test.true)) ∙ sym (c.loop-i.invariant.1 c.loop-i.i c.index-calls-i.result (omega arith))) ∙ gone.0))
           c.loop-i.invariant.1 c.loop-i.invariant.2),
@@ -48,7 +48,7 @@ returns g c =
       row,
       rw (← i)
           (ran (g.S.TemplateSource.meaning c.args.source.now) g.I.Inspector.step (length c.args.places.now) (length c.args.words.now) (length c.format_words.new.words) c.args.marks.now c.args.calls.now c.loop-i.calls c.args.answers.now c.loop-i.answers c.loop-i.words c.loop-i.marks c.loop-i.i c.loop-i.marked c.loop-i.holds
-          (g.S.TemplateSource.laws c.args.source.now) row c.format_words.auto.words c.loop-i.invariant.0
+          (g.met.S.TemplateSource.laws c.args.source.now) row c.format_words.auto.words c.loop-i.invariant.0
           (omega (arith, c.fewer-most.ensures)) (inl (i ∙ c.fewer-most.ensures))
           c.loop-i.invariant.1 c.loop-i.invariant.2),
     )

@@ -14,13 +14,13 @@ show-requires g c =
 pub returns-then-show : goal.returns-then-show
 returns-then-show g c =
     let t = g.S.TemplateSource.meaning c.args.source.now in
-    let laws = g.S.TemplateSource.laws c.args.source.now in
+    let laws = g.met.S.TemplateSource.laws c.args.source.now in
     turn_visited t laws c.args.words.now g.I.Inspector.step c.args.marks.now c.args.pending.now c.args.depth c.args.inspector.now c.requires.deep c.requires.good c.show.new.inspector (omega arith) (made _ _ _ _ (rw c.words_of-n.ensures at c.show.ensures) c.if-show.true)
 
 pub returns-then-frame-n : goal.returns-then-frame-n
 returns-then-frame-n g c =
     let t = g.S.TemplateSource.meaning c.args.source.now in
-    let laws = g.S.TemplateSource.laws c.args.source.now in
+    let laws = g.met.S.TemplateSource.laws c.args.source.now in
     let no = not_made _ _ _ _ (rw c.words_of-n.ensures at c.show.ensures) c.if-show.false in
     turn_refused t laws c.args.words.now g.I.Inspector.step c.args.marks.now c.args.pending.now c.args.depth c.args.inspector.now c.requires.deep c.requires.good c.show.new.inspector no.1 (omega arith) no.0
 
@@ -28,7 +28,7 @@ pub overflow_add-pending : goal.overflow_add-pending
 overflow_add-pending g c =
     let t = g.S.TemplateSource.meaning c.args.source.now in
     let f = top c.args.pending.now c.args.depth in
-    let few = short t (g.S.TemplateSource.laws c.args.source.now) f.code in
+    let few = short t (g.met.S.TemplateSource.laws c.args.source.now) f.code in
     let small : f.word + 1 < 4294967296 = omega arith in
     search rules
 
@@ -52,18 +52,18 @@ enter-requires g c =
 pub returns-in-Misfit : goal.returns-in-Misfit
 returns-in-Misfit g c =
     let t = g.S.TemplateSource.meaning c.args.source.now in
-    let laws = g.S.TemplateSource.laws c.args.source.now in
+    let laws = g.met.S.TemplateSource.laws c.args.source.now in
     subst (λ p. Resume t c.args.words.now g.I.Inspector.step (frames c.args.pending.now c.args.depth) c.args.marks.now c.args.inspector.now [] c.args.marks.now c.args.inspector.now (Broken p)) (sym c.place_of.ensures)
     (turn_misfit t laws c.args.words.now g.I.Inspector.step c.args.marks.now c.args.pending.now c.args.depth c.args.inspector.now c.requires.deep c.requires.good (omega arith) (sym c.in-Misfit.ensures))
 
 pub returns-in-Cell : goal.returns-in-Cell
 returns-in-Cell g c =
     let t = g.S.TemplateSource.meaning c.args.source.now in
-    let laws = g.S.TemplateSource.laws c.args.source.now in
+    let laws = g.met.S.TemplateSource.laws c.args.source.now in
     turn_cell t laws c.args.words.now g.I.Inspector.step c.args.marks.now c.args.pending.now c.args.depth c.args.inspector.now c.requires.deep c.requires.good (omega arith) c.in-Cell.code c.in-Cell.address _ _ _ (sym c.in-Cell.ensures) c.enter.ensures
 
 pub returns-in-Nothing : goal.returns-in-Nothing
 returns-in-Nothing g c =
     let t = g.S.TemplateSource.meaning c.args.source.now in
-    let laws = g.S.TemplateSource.laws c.args.source.now in
+    let laws = g.met.S.TemplateSource.laws c.args.source.now in
     turn_plain t laws c.args.words.now g.I.Inspector.step c.args.marks.now c.args.pending.now c.args.depth c.args.inspector.now c.requires.deep c.requires.good (omega arith) (sym c.in-Nothing.ensures)

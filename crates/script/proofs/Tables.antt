@@ -1,8 +1,9 @@
 -- What a table brings.
-use Rattle.std.proofs.Common.{◌≡◌, ℕ, false, List, is_some, Some, None, Ok, Err, vec_items, Option, Result, sym, refl, ap, ◌∙◌, subst, inl, arith, MatchResult}
+use Rattle.std.proofs.Common.{◌≡◌, ℕ, false, List, is_some, Some, None, Ok, Err, Option, Result, sym, refl, ap, ◌∙◌, subst, inl, arith, MatchResult}
 use Rattle.refusals.specs.declared.refusal.Refusal.{Refusal}
 use Rattle.layouts.specs.Table.{table_refusal}
 use Rattle.sources.specs.Errors.{NoTable}
+use Rattle.sources.specs.Words.{words_of}
 use Rattle.sources.specs.declared.error.TableError.{TableError}
 use Rattle.sources.specs.declared.table.Table.{Table}
 use Rattle.lines.specs.Requests.{types}
@@ -11,7 +12,7 @@ use Rattle.script.specs.declared.store.Store.{Store}
 use Rattle.script.specs.Obeying.{typed, Brings}
 use Rattle.script.specs.Session.{with_store}
 
-pub table_is : (P : Table → Type 0) (ns ws : List ℕ) (r : Result Table TableError) → ws ≡ ns → MatchResult r (λ t. (vec_items t.words ≡ ws) × P t) (λ e. NoTable ws e) → MatchResult r (λ t. vec_items t.words ≡ ns) (λ e. NoTable ns e)
+pub table_is : (P : Table → Type 0) (ns ws : List ℕ) (r : Result Table TableError) → ws ≡ ns → MatchResult r (λ t. (words_of t ≡ ws) × P t) (λ e. NoTable ws e) → MatchResult r (λ t. words_of t ≡ ns) (λ e. NoTable ns e)
 table_is P ns ws (Ok t) e h = h.0 ∙ e
 table_is P ns ws (Err f) e h = subst (λ ws. NoTable ws f) e h
 
@@ -19,9 +20,9 @@ none_from : {X : Type 0} (o : Option X) → is_some o ≡ false → o ≡ None
 none_from None e = refl
 none_from (Some x) e = absurd (let z : ◌≡◌ {A = ℕ} 0 1 = cc in omega arith)
 
-pub accepted : (o : Option Store) (number : ℕ) (ns : List ℕ) (t : Table) → false ≡ is_some o → vec_items t.words ≡ ns → Brings (with_store o) number (types ns) (typed (vec_items t.words)) Done
+pub accepted : (o : Option Store) (number : ℕ) (ns : List ℕ) (t : Table) → false ≡ is_some o → words_of t ≡ ns → Brings (with_store o) number (types ns) (typed (words_of t)) Done
 accepted None number ns t e is =
-    inl (refl, (Ok tt, (ap table_refusal (sym is) ∙ none_from (table_refusal (vec_items t.words)) t.accepted, ap typed is), refl))
+    inl (refl, (Ok tt, (ap table_refusal (sym is) ∙ none_from (table_refusal (words_of t)) t.accepted, ap typed is), refl))
 accepted (Some s) number ns t e is = absurd (let z : ◌≡◌ {A = ℕ} 0 1 = cc in omega arith)
 
 pub not_accepted : (o : Option Store) (number : ℕ) (ns : List ℕ) (f : Refusal) → false ≡ is_some o → table_refusal ns ≡ Some f → Brings (with_store o) number (types ns) (with_store o) (Refused f)

@@ -3,6 +3,7 @@ use Rattle.std.specs.Prelude.{◌≡◌, ℕ, ◌⊎◌, List, Some, None, Optio
 use Rattle.refusals.specs.declared.refusal.Refusal.TheVariants.{NotALine}
 use Rattle.sources.specs.declared.over.Over.{Over}
 use Rattle.sources.specs.declared.table.Table.{Table}
+use Rattle.sources.specs.Words.{words_of}
 use Rattle.lines.specs.Requests.{Request, Line}
 use Rattle.lines.specs.Words.{OneLine}
 use Rattle.script.specs.declared.reply.Reply.{Reply}
@@ -14,7 +15,7 @@ use Rattle.script.specs.Obeying.{State, empty, typed, ready, InOrder, Obeys}
 use Rattle.script.specs.Replies.{printed}
 
 abbrev pub table_words : Over Table → List ℕ
-table_words o = o.below.words.items
+table_words o = words_of o.below
 
 abbrev pub opened : Over Table → Heap → State
 opened o h = ready (table_words o) h.words.items h.holds.records

@@ -1,6 +1,7 @@
 ghost use Rattle.std.specs.Prelude.{◌≡◌, ℕ, ◌≤◌, ◌⊎◌, List, length, string_bytes};
 ghost use Rattle.std.specs.Result as results;
 ghost use Rattle.sources.specs.Errors.{NoTable};
+ghost use Rattle.sources.specs.Words.{words_of};
 ghost use Rattle.lines.specs.Commands.{Holds};
 ghost use Rattle.lines.specs.Numbers.{Lists, Writes};
 ghost use Rattle.lines.specs.Requests as requests;
@@ -29,7 +30,7 @@ pub struct Session {
 
 // The table of a command's numbers, or why there is none.
 fn table_of(heap: Global, follow: Part<'_>) -> Result<Table, TableError>
-    ensures { (ns : List ℕ) → Lists follow.entry.text.now ns → length ns ≤ 64 → results.MatchResult result (λ t. t.words.items ≡ ns) (λ e. NoTable ns e) }
+    ensures { (ns : List ℕ) → Lists follow.entry.text.now ns → length ns ≤ 64 → results.MatchResult result (λ t. words_of t ≡ ns) (λ e. NoTable ns e) }
 {
     let mut words = [0; MOST_WORDS];
     let count = numbers(follow.text, &mut words).unwrap_or(0);

@@ -3,7 +3,7 @@ ghost use Rattle.std.specs.Result.{result_err};
 ghost use Rattle.refusals.specs.declared.refusal.Refusal.{Refusal};
 ghost use Rattle.layouts.specs.Table.{bad_start, lowest, table_refusal};
 ghost use Rattle.layouts.specs.Templates.{FollowsRule};
-ghost use Rattle.sources.specs.declared.spot.Spot.{Spot};
+ghost use Rattle.sources.specs.Asked.{Refuses};
 
 use crate::spot::Spot;
 use crate::starts::{Flagged, next_due};
@@ -22,7 +22,7 @@ fn ask_each<'a, F: Fn(Spot<'a>) -> Option<Refusal>>(
     rule: F,
 ) -> Result<(), Refusal>
     requires { F.IsAlwaysCallable rule }
-    ensures { (refused : ℕ → Option Refusal) → ((s : Spot) (r : Option Refusal) → s.table.now.words.now ≡ table.now.words.now → F.post rule s r → r ≡ refused s.k) → result_err result ≡ lowest refused (length table.now.words.now) }
+    ensures { (told : ℕ → Option Refusal) → Refuses (F.post rule) table.now.words.now told → result_err result ≡ lowest told (length table.now.words.now) }
 {
     let mut left = 0;
     for (k, word) in table.words.iter().enumerate() {

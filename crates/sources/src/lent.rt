@@ -7,7 +7,7 @@ use layouts::entry::Entry;
 impl<'a, S: TemplateSource> TemplateSource for &'a S {
     ghost meaning = { λ s. S.TemplateSource.meaning s.now };
 
-    ghost laws = { λ s. S.TemplateSource.laws s.now };
+    ghost laws = { λ s. S.laws s.now };
 
     fn size(&self, code: u32) -> Option<u32> {
         (**self).size(code)

@@ -20,7 +20,7 @@ pub struct Mask<S> {
 impl<S: TemplateSource> TemplateSource for Mask<S> {
     ghost meaning = { λ m. masked m.places.items (S.TemplateSource.meaning m.source) };
 
-    ghost laws = { λ m. masked_lawful m.places.items (S.TemplateSource.meaning m.source) (S.TemplateSource.laws m.source) };
+    ghost laws = { λ m. masked_lawful m.places.items (S.TemplateSource.meaning m.source) (S.laws m.source) };
 
     fn size(&self, code: u32) -> Option<u32> {
         self.source.size(code)

@@ -16,7 +16,7 @@ pub struct Over<S> {
 impl<S: TemplateSource> TemplateSource for Over<S> {
     ghost meaning = { λ o. over (S.TemplateSource.meaning o.below) };
 
-    ghost laws = { λ o. over_lawful (S.TemplateSource.meaning o.below) (S.TemplateSource.laws o.below) };
+    ghost laws = { λ o. over_lawful (S.TemplateSource.meaning o.below) (S.laws o.below) };
 
     fn size(&self, code: u32) -> Option<u32> {
         if code >= RULE_FIRST {

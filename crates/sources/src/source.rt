@@ -7,8 +7,6 @@ use layouts::entry::Entry;
 pub trait TemplateSource {
     ghost meaning: { Self → Types };
 
-    ghost laws: { (s : Self) → Lawful (meaning s) };
-
     // How many words a cell of the type has, or that there is no such type.
     fn size(&self, code: u32) -> Option<u32>
         ensures { result ≡ (meaning self.now).size code };
@@ -16,4 +14,6 @@ pub trait TemplateSource {
     // What a word of a cell of the type holds; the words count from 1.
     fn entry(&self, code: u32, word: u32) -> Entry
         ensures { result ≡ (meaning self.now).entry code word };
+
+    ghost laws: { (s : Self) → Lawful (meaning s) };
 }

@@ -32,7 +32,7 @@ returns-in-None g c =
       row,
       rw calls
           (ran (g.S.TemplateSource.meaning c.args.source.now) g.I.Inspector.step (length c.args.places.now) (length c.args.words.now) (length c.format_words.new.words) c.args.marks.now c.args.calls.now c.loop-i.calls c.args.answers.now c.loop-i.answers c.loop-i.i c.carry_out.new.self
-          (g.S.TemplateSource.laws c.args.source.now) row c.format_words.auto.words (search rules) (search rules)
+          (g.met.S.TemplateSource.laws c.args.source.now) row c.format_words.auto.words (search rules) (search rules)
           (subst (λ σ. Run (g.S.TemplateSource.meaning c.args.source.now) g.I.Inspector.step (length c.args.places.now) (events (take c.loop-i.i c.args.calls.now) (take c.loop-i.i c.loop-i.answers) (take c.loop-i.i c.loop-i.calls)) (new_state (length c.format_words.new.words) c.args.marks.now) σ) (sym gone.1) c.loop-i.invariant.0)
           (omega (arith, c.min-most.ensures, c.loop-i-test.true))
           (inr (λ d.
@@ -49,7 +49,7 @@ returns g c =
       row,
       rw (← i)
           (ran (g.S.TemplateSource.meaning c.args.source.now) g.I.Inspector.step (length c.args.places.now) (length c.args.words.now) (length c.format_words.new.words) c.args.marks.now c.args.calls.now c.loop-i.calls c.args.answers.now c.loop-i.answers c.loop-i.i c.loop-i.heap
-          (g.S.TemplateSource.laws c.args.source.now) row c.format_words.auto.words (search rules) (search rules) c.loop-i.invariant.0
+          (g.met.S.TemplateSource.laws c.args.source.now) row c.format_words.auto.words (search rules) (search rules) c.loop-i.invariant.0
           (omega (arith, c.min-most.ensures)) (inl (i ∙ c.min-most.ensures))
           c.loop-i.invariant.2 c.loop-i.invariant.3),
     )

@@ -63,6 +63,7 @@ impl Holds {
     pub(crate) fn fill(&mut self, hold: u32, content: Content)
         ensures { self.new.records ≡ slice_set self.old.records hold (holding content) }
     {
+        // By its index, since nothing is known of an array after a write through its `get_mut`.
         if hold <= LAST_HOLD {
             self.records[hold as usize].fill(content);
         }

@@ -1,6 +1,6 @@
 -- One content more, and the end of a scan of contents.
 use Rattle.std.proofs.Common.{◌≡◌, ℕ, ◌+◌, ◌<◌, ◌≤◌, Bool, true, false, cond, List, [], ◌∷◌, ◌++◌, length, take, drop, Some, None, Ok, Err, Result, sym, refl, ap, ◌∙◌, subst, arith, length-append}
-use Rattle.std.proofs.lemmas.List.{append_assoc, append-nil, map-append, map_more, take-append-drop, take_all}
+use Rattle.std.proofs.lemmas.List.{append_assoc, append-nil, map-append, map_more, take-append-drop}
 use Rattle.std.proofs.lemmas.Bool.Decides.{nat_tests}
 use Rattle.refusals.specs.declared.refusal.Refusal.{Refusal}
 use Rattle.layouts.specs.Types.{Types}
@@ -134,11 +134,3 @@ module _ (t : Types) (w : List ℕ) where
         run = subst (λ ks. Roots t w ks m (before.visits ++ one.visits) m₂ one.ending) all (cut_short (roots (drop (i + 1) rs)) run end.0);
         answer = is' ∙ end.1;
       }
-
-  pub all_scanned : (rs : List HoldRecord) (i : ℕ) (m m₁ : List ℕ) (n : ℕ) → length rs ≤ i → First rs i m m₁ n → Scans t w (roots rs) m m₁ (Ok n)
-  all_scanned rs i m m₁ n le first = record {
-    visits = first.visits;
-    ending = Done;
-    run = subst (λ xs. Roots t w (roots xs) m first.visits m₁ Done) (take_all i rs le) first.run;
-    answer = ap Ok (sym first.counted);
-  }

@@ -1,6 +1,5 @@
-use Rattle.std.proofs.Common.{◌≡◌, ◌+◌, ◌<◌, ◌≤◌, ◌∙◌, [], ◌∷◌, length, Ok, Err, sym, ap, add-zero, arith, rules}
+use Rattle.std.proofs.Common.{◌+◌, ◌<◌, ◌≤◌, ◌∙◌, [], ◌∷◌, length, Ok, Err, ap, add-zero, arith, rules}
 use Rattle.std.proofs.lemmas.Result.{err_from_is_err_and}
-use Rattle.calls.specs.Holds.{root_of, at}
 use Rattle.marking.specs.Marking.{Scans}
 use Rattle.marking.proofs.Steps.{no_cell, root_done, root_stopped, root_refused, at_first, few, one_more, refused_at}
 use Rattle.marking.proofs.mark.scan_roots.Goals as goal

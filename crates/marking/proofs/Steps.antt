@@ -1,6 +1,6 @@
 -- One content more, and the end of a scan of contents.
 use Rattle.std.proofs.Common.{◌≡◌, ℕ, ◌+◌, ◌<◌, ◌≤◌, Bool, true, false, cond, List, [], ◌∷◌, ◌++◌, length, take, drop, Some, None, Ok, Err, Result, sym, refl, ap, ◌∙◌, subst, arith, length-append}
-use Rattle.std.proofs.lemmas.List.{append_assoc, append-nil, map-append, map_more, take-append-drop, take_all}
+use Rattle.std.proofs.lemmas.List.{append_assoc, append-nil, map-append, map_more, take-append-drop}
 use Rattle.std.proofs.lemmas.Bool.Decides.{nat_tests}
 use Rattle.refusals.specs.declared.refusal.Refusal.{Refusal}
 use Rattle.layouts.specs.Types.{Types}
@@ -34,13 +34,6 @@ fits_refused true f e = let z : ◌≡◌ {A = ℕ} 0 1 = cc in absurd (omega ar
 fits_refused false true e = let z : ◌≡◌ {A = ℕ} 0 1 = cc in absurd (omega arith)
 fits_refused false false e = refl
 
--- what a scan that is done answers, and one that stops
-pub told_end : (e : Ending) (n : ℕ) (x : Unit {0}) → e ≡ Ok x → Ok n ≡ told e n
-told_end e n x is = cc
-
-pub told_stop : (e : Ending) (n : ℕ) (stop : Stop) (r : Result ℕ Refusal) → e ≡ Err stop → r ≡ Err (refusal_of stop) → r ≡ told e n
-told_stop e n stop r is e' = cc
-
 module _ (t : Types) (w : List ℕ) where
   pub no_cell : (k : Content) (m : List ℕ) → ((c a : ℕ) → k ≡ Cell c a → ⊥) → Scans t w (k ∷ []) m m (Ok 0)
   no_cell Nothing m none = record { visits = []; ending = Done; run = nothing finished; answer = refl }
@@ -51,7 +44,7 @@ module _ (t : Types) (w : List ℕ) where
   one_root c a m s vs m' s' (Ok x) fit r = subst (λ us. Roots t w (Cell c a ∷ []) m us m' Done) (append-nil vs) (scanned fit r finished)
   one_root c a m s vs m' s' (Err e) fit r = stopped fit r tt
 
-  pub root_scanned : (k : Content) (c a P : ℕ) (m : List ℕ) (s : Nobody) (m' : List ℕ) (s' : Nobody) (x : Scanned) (r : Result ℕ Refusal) → k ≡ Cell c a → unscanned t (length w) (length m) P c a ≡ None → Traced t w takes_all c a m s m' s' x → r ≡ told x.ending x.visits → Scans t w (k ∷ []) m m' r
+  root_scanned : (k : Content) (c a P : ℕ) (m : List ℕ) (s : Nobody) (m' : List ℕ) (s' : Nobody) (x : Scanned) (r : Result ℕ Refusal) → k ≡ Cell c a → unscanned t (length w) (length m) P c a ≡ None → Traced t w takes_all c a m s m' s' x → r ≡ told x.ending x.visits → Scans t w (k ∷ []) m m' r
   root_scanned k c a P m s m' s' x r is none made e =
       subst (λ (y : Content). Scans t w (y ∷ []) m m' r) (sym is)
       (record {
@@ -60,6 +53,12 @@ module _ (t : Types) (w : List ℕ) where
         run = one_root c a m s made.visits_made m' s' x.ending (fits_made _ _ none) made.run;
         answer = e ∙ ap (told x.ending) made.counted;
       })
+
+  pub root_done : (k : Content) (c a P : ℕ) (m : List ℕ) (s : Nobody) (m' : List ℕ) (s' : Nobody) (x : Scanned) (u : Unit {0}) → k ≡ Cell c a → unscanned t (length w) (length m) P c a ≡ None → Traced t w takes_all c a m s m' s' x → x.ending ≡ Ok u → Scans t w (k ∷ []) m m' (Ok x.visits)
+  root_done k c a P m s m' s' x u is none made end = root_scanned k c a P m s m' s' x (Ok x.visits) is none made (cc)
+
+  pub root_stopped : (k : Content) (c a P : ℕ) (m : List ℕ) (s : Nobody) (m' : List ℕ) (s' : Nobody) (x : Scanned) (stop : Stop) (r : Result ℕ Refusal) → k ≡ Cell c a → unscanned t (length w) (length m) P c a ≡ None → Traced t w takes_all c a m s m' s' x → x.ending ≡ Err stop → r ≡ Err (refusal_of stop) → Scans t w (k ∷ []) m m' r
+  root_stopped k c a P m s m' s' x stop r is none made end e = root_scanned k c a P m s m' s' x r is none made (cc)
 
   -- with marks and pending places enough, only a pointer that does not fit is refused
   pub root_refused : (k : Content) (c a P : ℕ) (m m' : List ℕ) (u : Unscanned) (r : Result ℕ Refusal) → k ≡ Cell c a → length m ≡ length w → length w ≤ P → unscanned t (length w) (length m) P c a ≡ Some u → m' ≡ m → r ≡ Err (unmade u) → Scans t w (k ∷ []) m m' r
@@ -135,11 +134,3 @@ module _ (t : Types) (w : List ℕ) where
         run = subst (λ ks. Roots t w ks m (before.visits ++ one.visits) m₂ one.ending) all (cut_short (roots (drop (i + 1) rs)) run end.0);
         answer = is' ∙ end.1;
       }
-
-  pub all_scanned : (rs : List HoldRecord) (i : ℕ) (m m₁ : List ℕ) (n : ℕ) → length rs ≤ i → First rs i m m₁ n → Scans t w (roots rs) m m₁ (Ok n)
-  all_scanned rs i m m₁ n le first = record {
-    visits = first.visits;
-    ending = Done;
-    run = subst (λ xs. Roots t w (roots xs) m first.visits m₁ Done) (take_all i rs le) first.run;
-    answer = ap Ok (sym first.counted);
-  }

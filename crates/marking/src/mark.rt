@@ -1,4 +1,4 @@
-ghost use Rattle.std.specs.Prelude.{◌≡◌, ◌≤◌, [], ◌∷◌, length};
+ghost use Rattle.std.specs.Prelude.{◌≡◌, ◌≤◌, length};
 ghost use Rattle.marking.specs.Roots.{roots};
 ghost use Rattle.marking.specs.Marking.{Scans, Marks as Marking};
 
@@ -13,29 +13,7 @@ use scan::inspector::Nobody;
 use scan::walk::scan;
 use sources::source::TemplateSource;
 
-// Marks what the content reaches, and answers how many cells were marked.
-fn scan_root<S: TemplateSource>(
-    words: &[u32],
-    marks: &mut [u8],
-    pending: &mut [Frame],
-    source: &S,
-    root: Content,
-) -> Result<u32, Refusal>
-    requires marks { length marks.old ≡ length words.now }
-    requires places { length words.now ≤ length pending.old }
-    requires long { length words.now ≤ 65536 }
-    ensures { Scans (S.TemplateSource.meaning source.now) words.now (root ∷ []) marks.old marks.new result }
-{
-    let Content::Cell { code, address } = root else {
-        return Ok(0);
-    };
-    let mut nobody = Nobody;
-    let scanned = scan(words, marks, pending, source, &mut nobody, code, address)?;
-    scanned.ending?;
-    Ok(scanned.visits as u32)
-}
-
-// The same of each hold in turn, until one of them is refused.
+// Marks what each hold reaches in turn, until a scan is refused, and answers how many cells were marked.
 fn scan_roots<S: TemplateSource>(
     words: &[u32],
     marks: &mut [u8],
@@ -50,7 +28,12 @@ fn scan_roots<S: TemplateSource>(
 {
     let mut visits = 0;
     for hold in records {
-        visits += scan_root(words, marks, pending, source, hold.root())?;
+        let Content::Cell { code, address } = hold.root() else {
+            continue;
+        };
+        let scanned = scan(words, marks, pending, source, &mut Nobody, code, address)?;
+        scanned.ending?;
+        visits += scanned.visits as u32;
     }
     Ok(visits)
 }

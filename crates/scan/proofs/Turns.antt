@@ -7,9 +7,10 @@ use Rattle.scan.specs.Visits.{Visit, Visited}
 use Rattle.scan.specs.Marks.{mark_words}
 use Rattle.scan.specs.Children.{width, child_at, cell_visit}
 use Rattle.scan.specs.Scan.{refused, misfit}
-use Rattle.scan.specs.Pending.{frame_of, frames, Resume, halted, Ready, Good, Entered, Advanced}
+use Rattle.scan.specs.Pending.{frame_of, frames, Resume, halted, Good, Entered, Advanced, UnderWay}
 use Rattle.scan.specs.declared.frame.Child.TheVariants.{Nothing, Cell, Misfit}
 use Rattle.scan.specs.declared.frame.Frame.{Frame}
+use Rattle.scan.specs.declared.walk.Walk.{Walk}
 use Rattle.scan.specs.declared.inspector.Full.{Full as FullInspector}
 use Rattle.scan.specs.declared.scanned.Stop.TheVariants.{Broken, Full}
 use Rattle.scan.proofs.Inside.{short, inside_child}
@@ -33,31 +34,46 @@ pub not_made : {S : Type 0} (o : Option S) (s s' : S) (f : FullInspector) → Vi
 not_made None s s' f v = (refl, v.1)
 not_made (Some x) s s' f v = let z : ◌≡◌ {A = ℕ} 0 1 = cc in absurd (omega arith)
 
-pub top_ready : (t : Types) (L : ℕ) (m : List ℕ) (ps : List Frame) (d : ℕ) → 0 < d → Good t L m ps d → Ready t L (top ps d)
-top_ready t L m ps d pos g =
-    let g' : Good t L m ps (suc (d - 1)) = subst (λ x. Good t L m ps x) (sym (back d pos)) g in g'.ready.0
+module _ {S I : Type 0} (means : S → Types) (lawful : (x : S) → Lawful (means x)) (step : I → Visit → Option I) (a : Walk S) (s : I) (pos : 0 < a.depth) (under : UnderWay means a) where
+  abbrev t : Types
+  t = means a.source.now
 
-module _ (t : Types) (laws : Lawful t) (w : List ℕ) {S : Type 0} (step : S → Visit → Option S) (m : List ℕ) (ps : List Frame) (d : ℕ) (s : S) (pos : 0 < d) (g : Good t (length w) m ps d) where
+  abbrev w : List ℕ
+  w = a.words.now
+
+  abbrev m : List ℕ
+  m = a.marks.now
+
+  abbrev ps : List Frame
+  ps = a.pending.now
+
+  abbrev d : ℕ
+  d = a.depth
+
+  laws : Lawful t
+  laws = lawful a.source.now
+
   lower : Good t (length w) m ps (suc (d - 1))
-  lower = subst (λ x. Good t (length w) m ps x) (sym (back d pos)) g
+  lower = subst (λ x. Good t (length w) m ps x) (sym (back d pos)) under.good
 
-  raise : (vs : List Visit) (m' : List ℕ) (ps' : List Frame) (d' : ℕ) (s' : S) → Advanced t w step m ps (suc (d - 1)) s vs m' ps' d' s' → Advanced t w step m ps d s vs m' ps' d' s'
+  raise : (vs : List Visit) (m' : List ℕ) (ps' : List Frame) (d' : ℕ) (s' : I) → Advanced t w step m ps (suc (d - 1)) s vs m' ps' d' s' → Advanced t w step m ps d s vs m' ps' d' s'
   raise vs m' ps' d' s' = subst (λ x. Advanced t w step m ps x s vs m' ps' d' s') (back d pos)
 
   small : (top ps d).word ≤ width t (top ps d).code + 1
   small = lower.ready.0.high
 
-  pub turn_visited : (s' : S) → width t (top ps d).code < (top ps d).word → step s (cell_visit t w (top ps d).code (top ps d).address) ≡ Some s' → Advanced t w step m ps d s (cell_visit t w (top ps d).code (top ps d).address ∷ []) m ps (d - 1) s'
+  pub turn_visited : (s' : I) → width t (top ps d).code < (top ps d).word → step s (cell_visit t w (top ps d).code (top ps d).address) ≡ Some s' → Advanced t w step m ps d s (cell_visit t w (top ps d).code (top ps d).address ∷ []) m ps (d - 1) s'
   turn_visited s' past took =
       raise _ _ _ _ _ (pop t w step (top ps d).code (top ps d).address (top ps d).word (d - 1) m ps s s' refl lower (omega (arith, small, short t laws (top ps d).code)) past took)
 
-  pub turn_refused : (s' : S) → s' ≡ s → width t (top ps d).code < (top ps d).word → step s (cell_visit t w (top ps d).code (top ps d).address) ≡ None → Resume t w step (frames ps d) m s [] m s' (Err (Full (top ps d).address))
+  pub turn_refused : (s' : I) → s' ≡ s → width t (top ps d).code < (top ps d).word → step s (cell_visit t w (top ps d).code (top ps d).address) ≡ None → Resume t w step (frames ps d) m s [] m s' (Err (Full (top ps d).address))
   turn_refused s' same past none =
       subst (λ x. Resume t w step (frames ps d) m s [] m x (Err (Full (top ps d).address))) (sym same) (subst (λ x. Resume t w step (frames ps x) m s [] m s (Err (Full (top ps d).address))) (back d pos) (halted (refused past none) tt))
 
   module _ (le : (top ps d).word ≤ width t (top ps d).code) where
-    pub turn_misfit : child_at t w (top ps d).code (top ps d).address (top ps d).word ≡ Misfit → Resume t w step (frames ps d) m s [] m s (Err (Broken (place (top ps d).address (top ps d).word)))
-    turn_misfit is = subst (λ x. Resume t w step (frames ps x) m s [] m s (Err (Broken (place (top ps d).address (top ps d).word)))) (back d pos) (halted (misfit le is) tt)
+    pub turn_misfit : (p : ℕ) → p ≡ place (top ps d).address (top ps d).word → child_at t w (top ps d).code (top ps d).address (top ps d).word ≡ Misfit → Resume t w step (frames ps d) m s [] m s (Err (Broken p))
+    turn_misfit p here is =
+        rw here (subst (λ x. Resume t w step (frames ps x) m s [] m s (Err (Broken (place (top ps d).address (top ps d).word)))) (back d pos) (halted (misfit le is) tt))
 
     low : (top ps d).word ≤ 255
     low = omega (arith, le, short t laws (top ps d).code)

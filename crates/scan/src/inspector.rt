@@ -14,6 +14,7 @@ pub trait Inspector {
 
     ghost reported: { Self → Self.Report };
 
+    // Takes the visit of a cell, or is full.
     fn visit(&mut self, code: u32, address: u32, words: &[u32]) -> Result<(), Full>
         ensures { Visited (step self.old (visit_of code address words.now)) self.old self.new result };
 

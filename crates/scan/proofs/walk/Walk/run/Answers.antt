@@ -1,6 +1,5 @@
-use Rattle.std.proofs.Common.{◌∙◌, Err, sym, arith}
 use Rattle.std.proofs.lemmas.Result.{err_from_is_err_and}
-use Rattle.scan.proofs.Walks.{at_first, same_on, one_more, stops, done}
+use Rattle.scan.proofs.Walks.{one_more, stops, done}
 use Rattle.scan.proofs.walk.Walk.run.Goals as goal
 
 pub loop-self-preserved : goal.loop-self-preserved

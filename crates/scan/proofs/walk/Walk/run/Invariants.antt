@@ -1,4 +1,3 @@
-use Rattle.std.proofs.Common.{ℕ}
 use Rattle.scan.specs.Pending.{frames, weight}
 use Rattle.scan.proofs.Walks.{Gone}
 use Rattle.scan.proofs.walk.Walk.run.Given as goal

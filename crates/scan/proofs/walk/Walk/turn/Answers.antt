@@ -1,36 +1,30 @@
-use Rattle.std.proofs.Common.{◌≡◌, ◌+◌, ◌<◌, [], ◌∷◌, length, Err, sym, refl, ◌∙◌, subst, add-zero, arith}
-use Rattle.scan.specs.Children.{cell_visit}
-use Rattle.scan.specs.Pending.{frames, Resume}
-use Rattle.scan.specs.declared.scanned.Stop.TheVariants.{Broken}
-use Rattle.scan.proofs.Turns.{top, made, not_made, turn_visited, turn_refused, turn_misfit, turn_plain, turn_cell}
+use Rattle.std.proofs.Common.{[], sym, refl, ◌∙◌, add-zero, arith}
+use Rattle.scan.proofs.Turns.{made, not_made, turn_visited, turn_refused, turn_misfit, turn_plain, turn_cell}
 use Rattle.scan.proofs.walk.Walk.turn.Goals as goal
 
 pub returns-in_default-clause-turned : goal.returns-in_default-clause-turned
 returns-in_default-clause-turned g c =
     let k = c.args.self.now in
     let no = not_made _ _ _ _ (rw c.words_of-n.ensures at c.in_default.ensures) in
-    (refl, turn_refused (g.S.TemplateSource.meaning k.source.now) (g.met.S.TemplateSource.laws k.source.now) k.words.now g.I.Inspector.step k.marks.now k.pending.now k.depth c.args.inspector.now c.requires.deep c.requires.under_way.good c.show.new.inspector no.1 (omega arith) no.0)
+    (refl, turn_refused g.S.TemplateSource.meaning g.met.S.TemplateSource.laws g.I.Inspector.step k c.args.inspector.now c.requires.deep c.requires.under_way c.show.new.inspector no.1 (omega arith) no.0)
 
 pub returns-then-frame-n-clause-turned : goal.returns-then-frame-n-clause-turned
 returns-then-frame-n-clause-turned g c =
     let k = c.args.self.now in
     let took = made _ _ _ _ (rw c.words_of-n.ensures at c.in-Ok.ensures) in
-    (_, refl, turn_visited (g.S.TemplateSource.meaning k.source.now) (g.met.S.TemplateSource.laws k.source.now) k.words.now g.I.Inspector.step k.marks.now k.pending.now k.depth c.args.inspector.now c.requires.deep c.requires.under_way.good c.show.new.inspector (omega arith) took)
+    (_, refl, turn_visited g.S.TemplateSource.meaning g.met.S.TemplateSource.laws g.I.Inspector.step k c.args.inspector.now c.requires.deep c.requires.under_way c.show.new.inspector (omega arith) took)
 
 pub returns-in-Misfit-clause-turned : goal.returns-in-Misfit-clause-turned
 returns-in-Misfit-clause-turned g c =
-    let k = c.args.self.now in (
-      refl,
-      subst (λ p. Resume (g.S.TemplateSource.meaning k.source.now) k.words.now g.I.Inspector.step (frames k.pending.now k.depth) k.marks.now c.args.inspector.now [] k.marks.now c.args.inspector.now (Err (Broken p))) (sym c.place_of.ensures)
-          (turn_misfit (g.S.TemplateSource.meaning k.source.now) (g.met.S.TemplateSource.laws k.source.now) k.words.now g.I.Inspector.step k.marks.now k.pending.now k.depth c.args.inspector.now c.requires.deep c.requires.under_way.good (omega arith) (sym c.in-Misfit.ensures)),
-    )
+    let k = c.args.self.now in
+    (refl, turn_misfit g.S.TemplateSource.meaning g.met.S.TemplateSource.laws g.I.Inspector.step k c.args.inspector.now c.requires.deep c.requires.under_way (omega arith) _ c.place_of.ensures (sym c.in-Misfit.ensures))
 
 pub returns-in-Nothing-clause-turned : goal.returns-in-Nothing-clause-turned
 returns-in-Nothing-clause-turned g c =
     let k = c.args.self.now in
-    ([], sym (add-zero _), turn_plain (g.S.TemplateSource.meaning k.source.now) (g.met.S.TemplateSource.laws k.source.now) k.words.now g.I.Inspector.step k.marks.now k.pending.now k.depth c.args.inspector.now c.requires.deep c.requires.under_way.good (omega arith) (sym c.in-Nothing.ensures))
+    ([], sym (add-zero _), turn_plain g.S.TemplateSource.meaning g.met.S.TemplateSource.laws g.I.Inspector.step k c.args.inspector.now c.requires.deep c.requires.under_way (omega arith) (sym c.in-Nothing.ensures))
 
 pub returns-in-Cell-clause-turned : goal.returns-in-Cell-clause-turned
 returns-in-Cell-clause-turned g c =
     let k = c.args.self.now in
-    ([], c.enter.ensures.visits ∙ sym (add-zero _), turn_cell (g.S.TemplateSource.meaning k.source.now) (g.met.S.TemplateSource.laws k.source.now) k.words.now g.I.Inspector.step k.marks.now k.pending.now k.depth c.args.inspector.now c.requires.deep c.requires.under_way.good (omega arith) c.in-Cell.code c.in-Cell.address _ _ _ (sym c.in-Cell.ensures) c.enter.ensures.entered)
+    ([], c.enter.ensures.visits ∙ sym (add-zero _), turn_cell g.S.TemplateSource.meaning g.met.S.TemplateSource.laws g.I.Inspector.step k c.args.inspector.now c.requires.deep c.requires.under_way (omega arith) c.in-Cell.code c.in-Cell.address _ _ _ (sym c.in-Cell.ensures) c.enter.ensures.entered)

@@ -23,7 +23,7 @@ fn width(n: u32) -> usize
     Buffer::new().format(n).len()
 }
 
-// What is left of so much room after a line, if the line fits.
+// What is left of so much room after a line, if the line fits. Code, address and words come apart, as in `Inspector::visit`.
 fn room_after(room: usize, code: u32, address: u32, words: &[u32]) -> Option<usize>
     ensures { SomeIff result (length (line code address words.now) ≤ room) (room - length (line code address words.now)) }
 {

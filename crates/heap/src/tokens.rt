@@ -18,6 +18,7 @@ use sources::source::TemplateSource;
 use tracing::by_number::trace;
 
 // The calls of an open heap, by hold. Each is the call by hold number of the same name.
+// Holds and source are not one parameter: some calls write the holds, some read them, and some want no source.
 impl<'m> Open<'m> {
     pub fn take(&self, holds: &mut Holds, number: u32) -> Result<Hold, Refusal>
         ensures { Gives holds.old.records number holds.new.records result }

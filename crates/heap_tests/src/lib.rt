@@ -26,6 +26,17 @@ mod tests {
     // The same cell, which leads to one of code 6 at 3.
     const LINKED: [u32; 16] = [0, 0, 0, 5, 8, 0, 0, 0, 0, 40, 0, 6, 3, 0, 0, 0];
 
+    const UNHELD: HoldRecord = HoldRecord {
+        held: false,
+        content: Content::Nothing,
+    };
+
+    const BLANK: Frame = Frame {
+        code: 0,
+        address: 0,
+        word: 0,
+    };
+
     fn held(content: Content) -> HoldRecord {
         HoldRecord {
             held: true,
@@ -35,10 +46,7 @@ mod tests {
 
     // Hold 0 has the cell at 9; 1 and 5 have cells that do not fit; 2 an immediate; 3 nothing; 6 a cell of code 6.
     fn foreign() -> Holds {
-        let mut records = [HoldRecord {
-            held: false,
-            content: Content::Nothing,
-        }; 64];
+        let mut records = [UNHELD; 64];
         records[0] = held(Content::Cell {
             code: 1,
             address: 9,
@@ -153,13 +161,8 @@ mod tests {
         refused: Option<(u32, u64)>,
         text: &[u8],
     ) {
-        let blank = Frame {
-            code: 0,
-            address: 0,
-            word: 0,
-        };
         let mut marks = [7; 16];
-        let mut pending = [blank; 16];
+        let mut pending = [BLANK; 16];
         let mut lister = Lister::new(buffer);
         let traced = trace(
             words,
@@ -231,6 +234,43 @@ mod tests {
         let mut words = WORDS;
         let mut marks = [7; 16];
         assert_eq!(rt; round(&rt, &mut words, &mut marks, rt.alloc())?, 7);
+        Ok(())
+    }
+
+    // Hold 0 has the cell at 9: what it reaches stays, and the sweep frees the rest. Answers word 0 after it.
+    fn swept(
+        rt: &impl Abort,
+        words: &mut [u32],
+        marks: &mut [u8],
+        heap: Global,
+    ) -> Result<u32, Fail> {
+        let table = Table::new(heap, &TABLE)?;
+        let mut records = [UNHELD; 64];
+        records[0] = held(Content::Cell {
+            code: 1,
+            address: 9,
+        });
+        let mut pending = [BLANK; 16];
+        let Ok(open) = Open::adopt(Memory { words, marks }) else {
+            return Err(Fail::new("refused"));
+        };
+        let Ok((marked, cells)) = open.mark(&Holds::adopt(records), &table, &mut pending) else {
+            return Err(Fail::new("not marked"));
+        };
+        assert_eq!(rt; cells, 2);
+        assert_eq!(rt; marked.survey(), 9);
+        let (open, freed) = marked.sweep();
+        assert_eq!(rt; freed, 9);
+        let memory = open.close();
+        assert!(rt; memory.words.len() == 16);
+        Ok(memory.words[0])
+    }
+
+    #[test]
+    fn sweeps(rt: HostRuntime) -> Result<(), Fail> {
+        let mut words = LINKED;
+        let mut marks = [7; 16];
+        assert_eq!(rt; swept(&rt, &mut words, &mut marks, rt.alloc())?, 1);
         Ok(())
     }
 

@@ -1,13 +1,12 @@
 -- One text after another.
-use Rattle.std.proofs.Common.{◌≡◌, ℕ, ◌+◌, ◌<◌, ◌≤◌, Bool, true, false, cond, leb, List, [], ◌∷◌, ◌++◌, length, get_or, take, drop, Some, None, Ok, Err, decimal, Option, Result, sym, refl, ap, ◌∙◌, subst, append_assoc, zero-add, arith, length-append, length-drop, take-append-drop, length-take-le, leb-false, leb-true}
+use Rattle.std.proofs.Common.{◌≡◌, ℕ, ◌+◌, ◌<◌, ◌≤◌, Bool, true, false, cond, leb, List, [], ◌++◌, length, get_or, take, drop, Some, None, Ok, Err, Result, sym, refl, ap, ◌∙◌, subst, append_assoc, zero-add, arith, length-append, length-drop, take-append-drop, length-take-le, leb-false, leb-true}
 use lib.Seq.{drop-append-add}
 use Rattle.std.proofs.lemmas.List.{take_at, drop-drop, drop_more}
 use Rattle.std.specs.List.{flat_map}
-use Rattle.std.specs.Option.{SomeIff}
 use Rattle.scan.specs.Visits.{Visited}
 use Rattle.scan.specs.declared.inspector.Full.{Full}
 use Rattle.inspectors.specs.declared.lister.Lister.{Lister}
-use Rattle.inspectors.specs.Lines.{Room, appended, with_now, spaced, line, Lists}
+use Rattle.inspectors.specs.Lines.{Room, appended, with_now, spaced, Lists}
 
 module _ (s : Lister) (a : List ℕ) (fits : Room s a) where
   front_length : length (take s.used s.out.now ++ a) ≡ s.used + length a
@@ -62,15 +61,6 @@ appended_none s fits =
 -- the words from the i-th on
 pub spaced_more : (ws : List ℕ) (i d : ℕ) → i < length ws → flat_map spaced (drop i ws) ≡ spaced (get_or ws i d) ++ flat_map spaced (drop (i + 1) ws)
 spaced_more ws i d h = ap (flat_map spaced) (drop_more ws i d h)
-
-pub length_line : (code address : ℕ) (ws : List ℕ) → length (line code address ws) ≡ length (decimal code) + (length (decimal address) + (length (flat_map spaced ws) + 2))
-length_line code address ws = omega (arith, length-append (decimal code) (spaced address ++ (flat_map spaced ws ++ (10 ∷ []))), length-append (spaced address) (flat_map spaced ws ++ (10 ∷ [])), length-append (flat_map spaced ws) (10 ∷ []))
-
-pub length_more : (ws : List ℕ) (i d : ℕ) → i < length ws → length (flat_map spaced (drop i ws)) ≡ length (decimal (get_or ws i d)) + 1 + length (flat_map spaced (drop (i + 1) ws))
-length_more ws i d h = omega (arith, ap length (spaced_more ws i d h), length-append (spaced (get_or ws i d)) (flat_map spaced (drop (i + 1) ws)))
-
-pub refused : (r : Option ℕ) (P : Type 0) (v : ℕ) → r ≡ None → (P → ⊥) → SomeIff r P v
-refused r P v e f = subst (λ x. SomeIff x P v) (sym e) f
 
 pub front_room : (s : Lister) (a b : List ℕ) → Room s (a ++ b) → Room s a
 front_room s a b h = omega (arith, length-append a b)

@@ -1,5 +1,5 @@
 -- A lister is the text that it has written.
-use Rattle.std.proofs.Common.{◌≡◌, ℕ, ◌+◌, min, Bool, true, false, cond, leb, List, ◌++◌, length, take, Some, None, sym, refl, ap, ◌∙◌, subst, arith, length-take-le, take_all, leb-false, leb-true}
+use Rattle.std.proofs.Common.{◌≡◌, ℕ, ◌+◌, Bool, true, false, cond, leb, List, ◌++◌, length, Some, None, sym, refl, ap, ◌∙◌, subst, arith, length-take-le, leb-true}
 use Rattle.layouts.specs.Types.{Types}
 use Rattle.scan.specs.Visits.{Visit}
 use Rattle.scan.specs.Scan.{Run, Task}
@@ -9,13 +9,6 @@ use Rattle.inspectors.specs.Lines.{Room, appended}
 use Rattle.inspectors.specs.Listings.{line_of, lister_step, text_step, written, Spans}
 use Rattle.inspectors.proofs.Appends.{front_appended, length_appended, used_appended}
 use Rattle.inspectors.proofs.Followed.{followed}
-
-front_by : (k n : ℕ) (xs : List ℕ) (b : Bool) → leb n (length xs) ≡ b → k ≡ min n (length xs) → take k xs ≡ take n xs
-front_by k n xs true h e = let le = leb-true _ _ h in ap (λ j. take j xs) (omega arith)
-front_by k n xs false h e = let lt = leb-false _ _ h in take_all k xs (omega arith) ∙ sym (take_all n xs (omega arith))
-
-pub front_within : (k n : ℕ) (xs : List ℕ) → k ≡ min n (length xs) → take k xs ≡ take n xs
-front_within k n xs e = front_by k n xs _ refl e
 
 abbrev pub Follows : ℕ → Lister → List ℕ → Type 0
 Follows room s text = Spans room s × (text ≡ written s)

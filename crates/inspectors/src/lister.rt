@@ -8,7 +8,8 @@ use itoa::Buffer;
 use scan::inspector::{Full, Inspector};
 
 // Writes a line for each cell into a lent buffer: the code, the address and the words in decimal, with a space between any two.
-// The buffer is the caller's and of any length, so how much of it is used stands beside it.
+// The buffer is the caller's, so how much of it is used stands beside it. That this lies within the buffer is no ghost field, since
+// `lister_step` makes a lister from its parts, and would have to carry the proof.
 #[derive(Drop)]
 pub struct Lister<'b> {
     out: &'b mut [u8],
@@ -22,7 +23,7 @@ fn width(n: u32) -> usize
     Buffer::new().format(n).len()
 }
 
-// What is left of so much room after a line, if the line fits.
+// What is left of so much room after a line, if the line fits. Code, address and words come apart, as in `Inspector::visit`.
 fn room_after(room: usize, code: u32, address: u32, words: &[u32]) -> Option<usize>
     ensures { SomeIff result (length (line code address words.now) ≤ room) (room - length (line code address words.now)) }
 {
@@ -53,7 +54,7 @@ impl<'b> Lister<'b> {
         &out[..self.used.min(out.len())]
     }
 
-    // Writes the bytes after what is written.
+    // Writes the bytes after what is written. It asks for room as each writer below does, for its own text, so no field can say it.
     fn put(&mut self, bytes: &[u8])
         requires { Room self.old bytes.now }
         ensures { self.new ≡ appended self.old bytes.now }

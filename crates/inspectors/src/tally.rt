@@ -17,23 +17,6 @@ pub struct Row {
     pub words: u32,
 }
 
-// Counts cells and words by type.
-#[derive(Clone, Copy, PartialEq, Eq, Debug)]
-pub struct Tally {
-    rows: [Row; TYPES],
-}
-
-impl Tally {
-    pub fn new() -> Tally
-        ensures value { result ≡ empty }
-        ensures counts { Counts result }
-    {
-        Tally {
-            rows: [Row::default(); TYPES],
-        }
-    }
-}
-
 impl Row {
     // Whether the row counts the code, or nothing yet.
     fn serves(&self, code: u32) -> bool
@@ -51,6 +34,23 @@ impl Row {
             cells: self.cells.checked_add(1)?,
             words: self.words.checked_add(words.try_into().ok()?)?,
         })
+    }
+}
+
+// Counts cells and words by type.
+#[derive(Clone, Copy, PartialEq, Eq, Debug)]
+pub struct Tally {
+    rows: [Row; TYPES],
+}
+
+impl Tally {
+    pub fn new() -> Tally
+        ensures value { result ≡ empty }
+        ensures counts { Counts result }
+    {
+        Tally {
+            rows: [Row::default(); TYPES],
+        }
     }
 }
 

@@ -1,6 +1,5 @@
-use Rattle.std.proofs.Common.{refl}
 use Rattle.inspectors.proofs.Listings.{writes}
 use Rattle.inspectors.proofs.lister.Lister.new.Goals as goal
 
-pub returns : goal.returns
-returns c = record { value = refl; writes = writes c.args.buffer }
+pub returns-clause-writes : goal.returns-clause-writes
+returns-clause-writes c = writes c.args.buffer

@@ -22,9 +22,6 @@ module _ (s t u v : Lister) (k l m n : List ℕ) (room : Room s (k ++ (l ++ (m +
       (then_appended t u w l _ (front_room t l _ (second e)) f
       (then_appended u v w m n (front_room u m n (third e f)) g h))
 
-pub put_number-requires : goal.put_number-requires
-put_number-requires c = front_room c.args.self.now (decimal c.args.code) _ c.requires
-
 pub put_spaced-requires : goal.put_spaced-requires
 put_spaced-requires c =
     let s = c.args.self.now in let k = decimal c.args.code in let l = spaced c.args.address in let m = flat_map spaced c.args.words.now in

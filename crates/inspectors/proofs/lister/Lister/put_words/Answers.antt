@@ -1,15 +1,9 @@
-use Rattle.std.proofs.Common.{◌+◌, length, get_or, drop, sym, ap, ◌∙◌, subst, arith, length-append}
+use Rattle.std.proofs.Common.{◌+◌, get_or, drop, sym, ap, ◌∙◌, subst, arith, length-append}
 use Rattle.std.specs.List.{flat_map}
 use Rattle.std.proofs.lemmas.List.{drop_all}
 use Rattle.inspectors.specs.Lines.{Room, appended, spaced}
 use Rattle.inspectors.proofs.Appends.{then_room, appended_twice, appended_none, spaced_more}
 use Rattle.inspectors.proofs.lister.Lister.put_words.Goals as goal
-
-pub put_spaced-requires : goal.put_spaced-requires
-put_spaced-requires c =
-    let l = c.loop-w in
-    let more = spaced_more c.args.words.now l.w-index 0 c.loop-w-test.true in
-    omega (arith, ap length more, length-append (spaced (get_or c.args.words.now l.w-index 0)) (flat_map spaced (drop (l.w-index + 1) c.args.words.now)), l.invariant.0)
 
 pub loop-w-preserved : goal.loop-w-preserved
 loop-w-preserved c =

@@ -1,5 +1,7 @@
 -- The free list after a cell is cut from one of its runs.
-use Rattle.std.proofs.Common.{◌≡◌, ℕ, ◌+◌, ◌-◌, ◌<◌, ◌≤◌, ◌⊎◌, List, [], ◌∷◌, ◌++◌, length, replicate, get_or, set, sym, ap, ◌∙◌, subst, ⊎_elim, arith, rules}
+use Rattle.std.proofs.Common.{◌≡◌, ℕ, ◌+◌, ◌-◌, ◌<◌, ◌≤◌, List, [], ◌∷◌, ◌++◌, length, replicate, get_or, set, sym, ap, ◌∙◌, subst, ⊎_elim, arith, rules}
+use Rattle.std.proofs.Math.Nat.{eq-or-lt_of_le}
+use Rattle.std.proofs.lemmas.Bool.{cases_lt}
 use Rattle.std.proofs.lemmas.List.{places, get_or-set_same, get_or-set_other, length-set, length-replicate}
 use Rattle.std.proofs.lemmas.List.Edits.{paste_all}
 use Rattle.std.proofs.lemmas.Slice.{put_mid-paste}
@@ -128,9 +130,6 @@ link_small x = omega arith
 pub made_of : (x s l : ℕ) → x ≡ runWord (link_of s) (link_of l) → s < 65536 → l < 65536 → x ≡ runWord s l
 made_of x s l made h g = omega arith
 
-below_or_at : (k q : ℕ) → k ≤ q → (k < q) ⊎ (k ≡ q)
-below_or_at k q h = grind arith
-
 sizes_at : (w v : List ℕ) (q k : ℕ) → k ≡ q → size_of (get_or v q 0) ≡ size_of (get_or w q 0) → size_of (get_or v k 0) ≡ size_of (get_or w k 0)
 sizes_at w v q k same h = let P : ℕ → Type 0 = λ j. size_of (get_or v j 0) ≡ size_of (get_or w j 0) in subst P (sym same) h
 
@@ -161,7 +160,7 @@ whole_gone w p a s front back e ending other r next free =
     let like : Like w v p = record {
       long = long;
       links = λ k h. ap link_of (low k h);
-      sizes = λ k h. ⊎_elim (λ l. ap size_of (low k l)) (λ same. sizes_at w v p k same size-p) (below_or_at k p h);
+      sizes = λ k h. ⊎_elim (λ same. sizes_at w v p k same size-p) (λ l. ap size_of (low k l)) (eq-or-lt_of_le h);
     } in
     let same : Same w v (a + s) = record {
       long = long;
@@ -189,13 +188,10 @@ last_shorter w v a f e (broken q) same link zeros ends = (
           some = next.some;
           within = omega (arith, next.within, same.long);
         }))
-        (below_or_past b e);
+        (cases_lt b e);
   },
 )
   where
-    below_or_past : (k q : ℕ) → (k < q) ⊎ (q ≤ k)
-    below_or_past k q = grind arith
-
     empty : (x t : ℕ) → x ≡ 0 → size_of x ≡ t → 1 ≤ t → ⊥
     empty x t e₁ e₂ h = omega arith
 

@@ -1,5 +1,6 @@
 -- A free list reads in one way, so taking a cell has one answer.
-use Rattle.std.proofs.Common.{◌≡◌, ℕ, ◌+◌, ◌<◌, ◌≤◌, ◌⊎◌, List, [], ◌∷◌, get_or, Some, None, Ok, Err, sym, refl, ap, ◌∙◌, subst, ⊎_elim, arith}
+use Rattle.std.proofs.Common.{◌≡◌, ℕ, ◌+◌, ◌<◌, ◌≤◌, List, [], ◌∷◌, get_or, Some, None, Ok, Err, sym, refl, ap, ◌∙◌, subst, ⊎_elim, arith}
+use Rattle.std.proofs.Math.Nat.{eq-or-lt_of_le}
 use Rattle.free_list.specs.declared.fault.Fault.TheVariants.{Length, Size, Broken}
 use Rattle.free_list.specs.Free.{size_of, Run, span, Next, Ending, proper, broken, Ends, Free, Reach, Smaller, FirstFit, NoFit}
 use Rattle.free_list.specs.Cells.{Cut}
@@ -100,12 +101,9 @@ proper_broken q e = let z : ◌≡◌ {A = ℕ} 0 1 = cc in omega arith
 cut_once : (w : List ℕ) (p a s n : ℕ) (u v : List ℕ) → n ≤ s → Cut w p a s n u → Cut w p a s n v → u ≡ v
 cut_once w p a s n u v enough x y =
     ⊎_elim
+    (λ (same : n ≡ s). x.whole (sym same) ∙ sym (y.whole (sym same)))
     (λ (less : n < s). x.part less ∙ sym (y.part less))
-    (λ (same : s ≡ n). x.whole same ∙ sym (y.whole same))
-    (less_or_same n s enough)
-  where
-    less_or_same : (n s : ℕ) → n ≤ s → (n < s) ⊎ (s ≡ n)
-    less_or_same n s h = grind arith
+    (eq-or-lt_of_le enough)
 
 given_once : (w : List ℕ) (n : ℕ) (u v : List ℕ) (c d : ℕ) → Given w n u c → Given w n v d → (c ≡ d) × (u ≡ v)
 given_once w n u v c d x y =

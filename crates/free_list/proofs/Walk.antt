@@ -1,5 +1,5 @@
 -- The reading of a free list, one run further.
-use Rattle.std.proofs.Common.{◌≡◌, ℕ, ◌+◌, ◌<◌, List, [], ◌∷◌, ◌++◌, Some, None, Ok, Err, Option, Result, sym, refl, ◌∙◌, subst}
+use Rattle.std.proofs.Common.{◌≡◌, ℕ, ◌+◌, ◌<◌, List, [], ◌∷◌, ◌++◌, Some, None, Ok, Err, Result, sym, refl, ◌∙◌, subst}
 use Rattle.free_list.specs.declared.runs.Found.{Found}
 use Rattle.free_list.specs.declared.runs.Runs.{Runs}
 use Rattle.free_list.specs.Walks.{GivesRun}

@@ -1,5 +1,5 @@
 -- One step of a walk along the free list.
-use Rattle.std.specs.Prelude.{◌≡◌, ℕ, ◌+◌, ◌-◌, List, [], length, slice_index, Some, None, Ok, Err, Option, Result}
+use Rattle.std.specs.Prelude.{◌≡◌, ℕ, ◌+◌, ◌-◌, [], length, slice_index, Some, None, Ok, Err, Option, Result}
 use Rattle.std.specs.Iterator.{Count, at_most}
 use Rattle.free_list.specs.declared.runs.Found.{Found}
 use Rattle.free_list.specs.declared.runs.Runs.{Runs}

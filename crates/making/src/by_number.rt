@@ -13,7 +13,8 @@ use scan::guard::Marks;
 use sources::source::TemplateSource;
 use sweeping::sweep::sweep;
 
-// Marks what the holds reach, and makes the rest the free list.
+// Marks what the holds reach, and makes the rest the free list. The five are no struct: of words that a struct lends beside its
+// marks, only how many they are is known afterwards.
 fn collect<S: TemplateSource>(
     words: &mut [u32],
     marks: &mut [u8],

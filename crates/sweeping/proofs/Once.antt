@@ -1,11 +1,11 @@
 -- A sweep leaves one list of words.
 use Rattle.std.proofs.Common.{◌≡◌, ℕ, ◌+◌, ◌<◌, ◌≤◌, ◌⊎◌, List, [], ◌∷◌, get_or, sym, refl, ◌∙◌, subst, inl, inr, ⊎_elim, arith}
+use Rattle.std.proofs.lemmas.Bool.{cases_lt}
 use Rattle.std.proofs.lemmas.List.{ext_get_or}
 use Rattle.free_list.specs.Free.{size_of, link_of, Run, span, proper, Free}
 use Rattle.scan.specs.Marks.{IsMarked}
 use Rattle.sweeping.specs.Sweeping.{Stretch, Stretches, NoStart}
 use Rattle.sweeping.specs.Laws.{OneSweep}
-use Rattle.sweeping.proofs.Rooms.{below_or_past}
 
 -- the stretches of some marks are one list
 stretches_once : (m : List ℕ) (e : ℕ) (xs ys : List Run) → Stretches m e xs → Stretches m e ys → xs ≡ ys
@@ -33,8 +33,8 @@ stretches_once m e (span a s ∷ xs) (span b t ∷ ys) x y =
         (λ g. ⊎_elim
         (λ l. absurd (not_before m e b t a y past' marked l))
         (λ g'. let same : a ≡ b = omega arith in same)
-        (below_or_past b a))
-        (below_or_past a b)
+        (cases_lt b a))
+        (cases_lt a b)
 
     not_shorter : (m : List ℕ) (a s b t : ℕ) → Stretch m a s → Stretch m b t → a ≡ b → s < t → ⊥
     not_shorter m a s b t x y same l = y.free (a + s) (omega arith) (omega arith) (x.last (omega (arith, y.within)))
@@ -46,8 +46,8 @@ stretches_once m e (span a s ∷ xs) (span b t ∷ ys) x y =
         (λ g. ⊎_elim
         (λ l. absurd (not_shorter m b t a s y x (sym same) l))
         (λ g'. let e : s ≡ t = omega arith in e)
-        (below_or_past t s))
-        (below_or_past s t)
+        (cases_lt t s))
+        (cases_lt s t)
 
 word_once : (x y : ℕ) → size_of x ≡ size_of y → link_of x ≡ link_of y → x ≡ y
 word_once x y s l = omega arith
@@ -73,7 +73,7 @@ first_words u v p e (span a s ∷ runs) x y k =
     (at_or_not k a)
   where
     at_or_not : (k a : ℕ) → (k ≡ a) ⊎ (k ≡ a → ⊥)
-    at_or_not k a = ⊎_elim (λ l. inr (λ e. omega arith)) (λ g. ⊎_elim (λ l. inr (λ e. omega arith)) (λ h. inl (omega arith)) (below_or_past a k)) (below_or_past k a)
+    at_or_not k a = ⊎_elim (λ l. inr (λ e. omega arith)) (λ g. ⊎_elim (λ l. inr (λ e. omega arith)) (λ h. inl (omega arith)) (cases_lt a k)) (cases_lt k a)
 
 pub one_sweep : OneSweep
 one_sweep w m u v x y =
@@ -93,4 +93,4 @@ one_sweep w m u v x y =
     (λ apart. x.others k g apart ∙ sym (others k g apart))
     (λ (e : get_or u k 0 ≡ get_or v k 0). e)
     (first_words u v 0 1 x.runs x.list list k))
-    (below_or_past k 1))
+    (cases_lt k 1))

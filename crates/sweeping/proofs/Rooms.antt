@@ -1,13 +1,11 @@
 -- After a sweep there is a run of n words exactly where n neighbouring words are unmarked.
-use Rattle.std.proofs.Common.{◌≡◌, ℕ, ◌+◌, ◌<◌, ◌≤◌, ◌⊎◌, List, [], ◌∷◌, length, sym, subst, ⊎_elim, arith}
+use Rattle.std.proofs.Common.{◌≡◌, ℕ, ◌+◌, ◌<◌, ◌≤◌, List, [], ◌∷◌, length, sym, subst, ⊎_elim, arith}
+use Rattle.std.proofs.lemmas.Bool.{cases_lt}
 use Rattle.free_list.specs.Free.{Run, span, Next, proper, broken, Free, Reach, Smaller, FirstFit, NoFit}
 use Rattle.free_list.proofs.Once.{next_once, next_moved, free_at, ends_next, free_once}
 use Rattle.sweeping.specs.Sweeping.{IsFree, Stretch, Stretches, Swept}
 use Rattle.sweeping.specs.Room.{Room}
 use Rattle.sweeping.specs.Laws.{RoomLaw}
-
-pub below_or_past : (k q : ℕ) → (k < q) ⊎ (q ≤ k)
-below_or_past k q = grind arith
 
 -- n neighbouring unmarked words lie in one stretch
 none_large : (m : List ℕ) (e n : ℕ) (runs : List Run) (a : ℕ) → 1 ≤ n → e ≤ a → a + n ≤ length m
@@ -19,8 +17,8 @@ none_large m e n (span b t ∷ runs) a some past within free all h =
     (λ g. ⊎_elim
     (λ l. free (b + t) (omega arith) (omega (arith, h.0)) (all.0.last (omega (arith, h.0))))
     (λ beyond. none_large m (b + t) n runs a some beyond within free all.3 h.1)
-    (below_or_past a (b + t)))
-    (below_or_past a b)
+    (cases_lt a (b + t)))
+    (cases_lt a b)
 
 -- a run that is found is a stretch
 found_stretch : (v m : List ℕ) (p e f : ℕ) (front runs : List Run) (q g a s : ℕ) → Reach v p e front q g → Next v q g a s

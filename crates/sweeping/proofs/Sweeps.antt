@@ -1,5 +1,7 @@
 -- A sweep from the last word down.
 use Rattle.std.proofs.Common.{◌≡◌, ℕ, ◌+◌, ◌-◌, ◌<◌, ◌≤◌, ◌⊎◌, List, [], ◌∷◌, ◌++◌, length, get_or, take, set, sym, refl, ap, ◌∙◌, subst, ⊎_elim, arith}
+use Rattle.std.proofs.Math.Nat.{eq-zero-or-pos}
+use Rattle.std.proofs.lemmas.Bool.{cases_lt}
 use Rattle.std.proofs.lemmas.List.{get_or-set_same, get_or-set_other, length-set, length-append, take-take, get_or-take}
 use Rattle.std.proofs.Math.Seq.{take-length, take-append_seam, get_or-append_seam}
 use Rattle.scan.specs.Marks.{IsMarked}
@@ -172,10 +174,7 @@ close_step w₀ m w next a s v head there first lm lw closed d =
     let Q : List ℕ → Type 0 = λ x. Partly w₀ m x a a in
     let R : ℕ → Type 0 = λ x. Partly w₀ m v x a in
     subst R (sym e.1) (subst Q (sym e.0) (partly_made w₀ m w next a s some stretch lm lw d.swept)))
-    (none_or_some s)
-  where
-    none_or_some : (s : ℕ) → (s ≡ 0) ⊎ (1 ≤ s)
-    none_or_some s = grind arith
+    (eq-zero-or-pos s)
 
 pub state_marked : (w₀ m w : List ℕ) (next a b s : ℕ) (v : List ℕ) (head p t : ℕ) → 1 ≤ a → b ≡ a + 1 → IsMarked m a
     → length m ≡ length w → length w ≤ 65536 → p ≡ a + 1 → Closed w p s next v head → t ≡ 0
@@ -238,7 +237,8 @@ down_one m before after x last ahead =
     )
 
 pub one_ahead : (a k : ℕ) → k ≡ 1 → 1 ≤ a → (k < a → a ≡ 0) → a ≡ 1
-one_ahead a k same some none = ⊎_elim (λ more. absurd (omega (arith, none more))) (λ one. one) (more_or_one a k same some)
-  where
-    more_or_one : (a k : ℕ) → k ≡ 1 → 1 ≤ a → (k < a) ⊎ (a ≡ 1)
-    more_or_one a k same some = grind arith
+one_ahead a k same some none =
+    ⊎_elim
+    (λ more. absurd (omega (arith, none more)))
+    (λ less. let one : a ≡ 1 = omega arith in one)
+    (cases_lt k a)

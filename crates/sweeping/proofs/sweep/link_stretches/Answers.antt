@@ -1,4 +1,4 @@
-use Rattle.std.proofs.Common.{◌≡◌, ◌<◌, ◌∙◌, ℕ, refl, sym, ap, length, take, subst, arith}
+use Rattle.std.proofs.Common.{◌≡◌, ◌∙◌, ℕ, refl, sym, ap, length, subst, arith}
 use Rattle.std.specs.Iterator.Adapters.{rev_source, skip_source, enumerate_source}
 use Rattle.std.specs.Slice.Iter.{iter_rest}
 use Rattle.sweeping.proofs.Sweeps.{State, state_start, state_marked, state_unmarked, state_done, all_ahead, down_one, one_ahead}

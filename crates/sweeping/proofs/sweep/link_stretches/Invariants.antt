@@ -1,4 +1,4 @@
-use Rattle.std.proofs.Common.{◌≡◌, List, ℕ, length, take}
+use Rattle.std.proofs.Common.{◌≡◌, length, take}
 use Rattle.std.specs.Iterator.Adapters.{rev_source, skip_source, skip_count, enumerate_source, enumerate_count}
 use Rattle.std.specs.Slice.Iter.{iter_rest}
 use Rattle.sweeping.proofs.Sweeps.{State}

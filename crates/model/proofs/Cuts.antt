@@ -10,7 +10,7 @@ use Rattle.calls.specs.declared.record.HoldRecord.{HoldRecord}
 use Rattle.calls.specs.Holds.{holding}
 use Rattle.scan.specs.Children.{width}
 use Rattle.scan.proofs.Inside.{inside_fits}
-use Rattle.free_list.specs.Free.{size_of, link_of, runWord, Run, span, Next, proper, broken, Free, Reach}
+use Rattle.free_list.specs.Free.{size_of, link_of, runWord, Run, span, Next, proper, Free, Reach}
 use Rattle.free_list.specs.Cells.{zeroed, unlinked, shortened}
 use Rattle.free_list.specs.Taken.{Given}
 use Rattle.model.specs.Model.{Model, Reached, code_of, address_of}
@@ -196,16 +196,13 @@ module _ (t : Types) (b : Model) (w v : List ℕ) (rs : List HoldRecord) (h code
   unfolding n
   middle j lo hi = left_spare j (spare j (inr (inl (lo, omega arith)))) (λ ge less. omega (arith, g.cell))
 
-  not_broken : proper ≡ broken g.run → ⊥
-  not_broken e = cc
-
   beside : Beside t b' v
   unfolding front n
   beside =
       elim (cases_eq g.size (width t code)) [
         | inl same ↦ record {
           runs = front ++ parts.0;
-          reads = g.list.whole front parts.0 g.first.before proper same not_broken g.first.walked.reads g.first.next parts.2;
+          reads = g.list.whole front parts.0 g.first.before proper same (λ e. cc) g.first.walked.reads g.first.next parts.2;
           spare = λ j i. sides j (in_either j front parts.0 i);
         }
         | inr other ↦ record {

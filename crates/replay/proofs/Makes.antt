@@ -70,9 +70,6 @@ given_long w v n a g =
       | inr other ↦ ap length (g.cut.part (omega (arith, g.first.enough))) ∙ wiped_length w g.run (runWord (g.size - n) (link_of (get_or w g.run 0))) (g.run + (g.size - n)) n (omega (arith, g.first.next.within, g.first.enough))
     ]
 
-not_broken : (q : ℕ) → proper ≡ broken q → ⊥
-not_broken q e = cc
-
 module _ (t : Types) (b : Model) (w : List ℕ) (rs : List HoldRecord) (h c : ℕ) (law : Lawful t) (st : Stands t b w rs) where
   -- what is right of a making that got so far
   record Outcome (w' : List ℕ) (r : Result ℕ Refusal) : Type 0 where
@@ -90,7 +87,8 @@ module _ (t : Types) (b : Model) (w : List ℕ) (rs : List HoldRecord) (h c : �
   found : {w' : List ℕ} {r : Result ℕ Refusal} → 1 ≤ width t c → Found t w rs (width t c) w' r → Outcome w' r
   found some (at_hand {w' = v} {a = a} g) = given w v a st refl g
   found some (broken_link {q = q} none) =
-      absurd (not_broken q (free_once w 0 1 st.beside.runs none.runs proper (broken q) st.beside.reads none.reads).1)
+      let same : proper ≡ broken q = (free_once w 0 1 st.beside.runs none.runs proper (broken q) st.beside.reads none.reads).1 in
+      absurd cc
   found some (broken_content none (stopped {m = m} {f = f} marking)) =
       let ok = (marked_all t b w rs st.agrees m (Err f) marking).1 in
       absurd cc

@@ -4,7 +4,7 @@
 #[cfg(test)]
 mod tests {
     use refusals::refusal::Refusal;
-    use replay::call::{Answer, Call, CellCall};
+    use replay::call::{Answer, Call, CellCall, Phase};
     use replay::replay::replay;
     use scan::frame::Frame;
     use scan::inspector::Nobody;
@@ -66,6 +66,7 @@ mod tests {
             &mut answers,
         )?;
         assert_eq!(rt; ran.count, 12);
+        assert_eq!(rt; ran.phase, Phase::Open);
         assert!(rt; matches!(answers[1], Ok(Answer::Number(9))));
         assert!(rt; matches!(answers[3], Ok(Answer::Number(7))));
         assert!(rt; matches!(answers[6], Ok(Answer::Number(2))));

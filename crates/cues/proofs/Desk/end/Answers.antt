@@ -4,4 +4,5 @@ use Rattle.cues.proofs.Desk.end.Goals as goal
 
 pub returns-then-is_empty : goal.returns-then-is_empty
 returns-then-is_empty c =
-    (λ _. refl, λ some. absurd (some (sym c.as_slice.ensures ∙ nil_from_length c.as_slice.result.now (true-eqb (length c.as_slice.result.now) 0 c.if-is_empty.ensures))))
+    let empty = sym c.as_slice.ensures ∙ nil_from_length c.as_slice.result.now (true-eqb (length c.as_slice.result.now) 0 c.if-is_empty.ensures) in
+    record { silent = λ _. refl; ended = λ some. absurd (some empty) }

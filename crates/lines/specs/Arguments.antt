@@ -7,6 +7,7 @@ use Rattle.lines.specs.declared.part.Part.{Part}
 use Rattle.lines.specs.Numbers.{Lists}
 use Rattle.lines.specs.Parts.{text, Within, NextWord}
 
+-- what they write
 abbrev pub values : List Argument → List ℕ
 values es = map (λ e. e.value) es
 
@@ -15,6 +16,7 @@ abbrev pub Follow : Part → List Argument → Type 0
 Follow rest [] = text rest ≡ []
 Follow rest (e ∷ es) = (after : Part) × NextWord rest e.part after × Follow after es
 
+-- the same as a list
 abbrev pub listed : Arguments → List Argument
 listed (One d) = d ∷ []
 listed (Two d e) = d ∷ e ∷ []

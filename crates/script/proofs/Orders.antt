@@ -5,7 +5,7 @@ use Rattle.lines.proofs.Readings.{line_once}
 use Rattle.script.specs.declared.failure.Failure.{Failure}
 use Rattle.script.specs.declared.failure.Failure.TheVariants.{Refused, NoMemory}
 use Rattle.script.specs.declared.reply.Reply.{Reply}
-use Rattle.script.specs.Coming.{Comes, Ends}
+use Rattle.script.specs.Coming.{Comes, ComesTo}
 use Rattle.script.specs.Obeying.{State, InOrder, Obeys, Brings}
 use Rattle.script.specs.Replies.{Outcome, printed}
 use Rattle.script.specs.Session.{Answers}
@@ -16,7 +16,7 @@ comes line number s t q o l (inl b) = inl (q, (l, b.0), b.1)
 comes line number s t q o l (inr b) =
     inr ((λ p a. b.0 (subst (InOrder s) (line_once line p q a.0 l) a.1)), b.1, b.2)
 
-pub all_come : (line : List ℕ) (number : ℕ) (s t : State) (q : Request) (lost : Type 0) (r : Result Reply Failure) → Line line q → Ends (λ o. Brings s number q t o) lost r → Ends (λ o. Comes line s number t o) lost r
+pub all_come : (line : List ℕ) (number : ℕ) (s t : State) (q : Request) (lost : Type 0) (r : Result Reply Failure) → Line line q → ComesTo (λ o. Brings s number q t o) lost r → ComesTo (λ o. Comes line s number t o) lost r
 all_come line number s t q lost (Ok reply) l h = comes line number s t q (Ok reply) l h
 all_come line number s t q lost (Err (Refused refusal)) l h = comes line number s t q (Err refusal) l h
 all_come line number s t q lost (Err NoMemory) l h = h

@@ -8,7 +8,7 @@ use Rattle.sources.specs.declared.table.Table.{Table}
 use Rattle.lines.specs.Requests.{types}
 use Rattle.script.specs.declared.reply.Reply.TheVariants.{Done}
 use Rattle.script.specs.declared.store.Store.{Store}
-use Rattle.script.specs.Coming.{Ends, failure_of}
+use Rattle.script.specs.Coming.{ComesTo, failure_of}
 use Rattle.script.specs.Obeying.{typed, Brings}
 use Rattle.script.specs.Session.{with_store}
 
@@ -25,7 +25,7 @@ accepted None number ns t e is =
     inl (refl, (Ok tt, (ap table_refusal (sym is) ∙ none_from (table_refusal (vec_items t.words)) t.accepted, ap typed is), refl))
 accepted (Some s) number ns t e is = cc
 
-pub not_accepted : (o : Option Store) (number : ℕ) (ns : List ℕ) (e : TableError) (lost : Type 0) → false ≡ is_some o → NoTable ns e → lost → Ends (λ r. Brings (with_store o) number (types ns) (with_store o) r) lost (Err (failure_of e))
+pub not_accepted : (o : Option Store) (number : ℕ) (ns : List ℕ) (e : TableError) (lost : Type 0) → false ≡ is_some o → NoTable ns e → lost → ComesTo (λ r. Brings (with_store o) number (types ns) (with_store o) r) lost (Err (failure_of e))
 not_accepted None number ns (Refused f) lost e h same = inl (refl, (Err f, (h, refl), refl))
 not_accepted None number ns NoMemory lost e h same = same
 not_accepted (Some s) number ns f lost e h same = cc e

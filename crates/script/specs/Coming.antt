@@ -20,7 +20,7 @@ failure_of (table_errors.Refused refusal) = Refused refusal
 failure_of table_errors.NoMemory = NoMemory
 
 -- an outcome of this kind, or, for want of memory, none
-abbrev pub Ends : (Outcome → Type 0) → Type 0 → Result Reply Failure → Type 0
-Ends P lost (Ok reply) = P (Ok reply)
-Ends P lost (Err (Refused refusal)) = P (Err refusal)
-Ends P lost (Err NoMemory) = lost
+abbrev pub ComesTo : (Outcome → Type 0) → Type 0 → Result Reply Failure → Type 0
+ComesTo P lost (Ok reply) = P (Ok reply)
+ComesTo P lost (Err (Refused refusal)) = P (Err refusal)
+ComesTo P lost (Err NoMemory) = lost

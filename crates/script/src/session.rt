@@ -5,7 +5,7 @@ ghost use Rattle.lines.specs.Commands.{Holds};
 ghost use Rattle.lines.specs.Numbers.{Lists};
 ghost use Rattle.lines.specs.Requests as requests;
 ghost use Rattle.lines.specs.Requests.{Request, Bounded};
-ghost use Rattle.script.specs.Coming.{Comes, Ends};
+ghost use Rattle.script.specs.Coming.{Comes, ComesTo};
 ghost use Rattle.script.specs.Obeying.{empty, calling, phase_of, Brings};
 ghost use Rattle.script.specs.Session.{state, Answers};
 
@@ -44,7 +44,7 @@ impl Session {
 
     // Takes a table, where none was accepted yet.
     fn take_types(&mut self, heap: Global, number: u64, follow: Part<'_>) -> Result<Reply, Failure>
-        ensures { (ns : List ℕ) → Lists follow.entry.text.now ns → length ns ≤ 64 → Ends (λ reply. Brings (state self.old) number (requests.types ns) (state self.new) reply) (self.new ≡ self.old) result }
+        ensures { (ns : List ℕ) → Lists follow.entry.text.now ns → length ns ≤ 64 → ComesTo (λ outcome. Brings (state self.old) number (requests.types ns) (state self.new) outcome) (self.new ≡ self.old) result }
     {
         if self.store.is_some() {
             return Err(Failure::Refused(Refusal::NotALine { line: number }));
@@ -59,7 +59,7 @@ impl Session {
 
     // Makes a heap, where there is a table and no heap yet.
     fn open_heap(&mut self, heap: Global, number: u64, length: u32) -> Result<Reply, Failure>
-        ensures { Ends (λ reply. Brings (state self.old) number (requests.heap length) (state self.new) reply) (self.new ≡ self.old) result }
+        ensures { ComesTo (λ outcome. Brings (state self.old) number (requests.heap length) (state self.new) outcome) (self.new ≡ self.old) result }
     {
         match &mut self.store {
             Some(store) if store.heap.is_none() => store.open(heap, length),
@@ -78,7 +78,7 @@ impl Session {
     }
 
     fn obey(&mut self, heap: Global, number: u64, command: Command<'_>) -> Result<Reply, Failure>
-        ensures { (line : List ℕ) (q : Request) → Bounded q → Holds command.entry line q → Ends (λ reply. Brings (state self.old) number q (state self.new) reply) (self.new ≡ self.old) result }
+        ensures { (line : List ℕ) (q : Request) → Bounded q → Holds command.entry line q → ComesTo (λ outcome. Brings (state self.old) number q (state self.new) outcome) (self.new ≡ self.old) result }
     {
         match command {
             Command::Types { numbers } => self.take_types(heap, number, numbers),
@@ -89,7 +89,7 @@ impl Session {
 
     // What a line comes to.
     fn obey_line(&mut self, heap: Global, number: u64, line: &[u8]) -> Result<Reply, Failure>
-        ensures { Ends (λ reply. Comes line.now (state self.old) number (state self.new) reply) (self.new ≡ self.old) result }
+        ensures { ComesTo (λ outcome. Comes line.now (state self.old) number (state self.new) outcome) (self.new ≡ self.old) result }
     {
         let command = read(line, number)?;
         self.obey(heap, number, command)

@@ -2,7 +2,7 @@ ghost use Rattle.std.specs.Prelude.{◌≡◌, ℕ, List, None};
 ghost use Rattle.lines.specs.Commands.{Holds as Held};
 ghost use Rattle.lines.specs.Requests as requests;
 ghost use Rattle.lines.specs.Requests.{Request};
-ghost use Rattle.script.specs.Coming.{Ends};
+ghost use Rattle.script.specs.Coming.{ComesTo};
 ghost use Rattle.script.specs.Obeying.{calling, phase_of, Obeys, Brings};
 ghost use Rattle.script.specs.declared.reply.Reply.TheVariants.{Done};
 ghost use Rattle.script.specs.Session.{opened, with_heap};
@@ -70,6 +70,7 @@ impl Heap {
     }
 }
 
+// The reply to a call that has nothing to tell.
 fn done(_: ()) -> Reply
     ensures { result ≡ Done }
 {
@@ -80,7 +81,7 @@ impl Store {
     // Makes a new heap of that many words.
     pub(crate) fn open(&mut self, heap: Global, length: u32) -> Result<Reply, Failure>
         requires { self.old.heap ≡ None }
-        ensures { Ends (λ reply. Obeys (with_heap self.old.source self.old.heap) (requests.heap length) (with_heap self.new.source self.new.heap) reply) (self.new ≡ self.old) result }
+        ensures { ComesTo (λ outcome. Obeys (with_heap self.old.source self.old.heap) (requests.heap length) (with_heap self.new.source self.new.heap) outcome) (self.new ≡ self.old) result }
     {
         let mut words = Vec::from_elem(heap, 0u32, length as usize)?;
         let marks = Vec::from_elem(heap, 0u8, length as usize)?;

@@ -6,20 +6,15 @@ ghost use Rattle.std.specs.declared.io.ErrorKind.TheVariants.{Interrupted};
 ghost use Rattle.lines.specs.Buffer.{held};
 ghost use Rattle.script.specs.Obeying.{empty};
 ghost use Rattle.script.specs.Session.{state};
-ghost use Rattle.cues.specs.Reading.{Accepts, LineEnded, pending};
+ghost use Rattle.cues.specs.Reading.{Accepts, Ends, LineEnded, pending};
 
 use anyhow::anyhow;
 use lines::buffer::LineBuffer;
 use script::session::Session;
 use std::io::{Error, ErrorKind, Read};
+use std::ops::ControlFlow;
 
 const CHUNK: usize = 4096;
-
-#[derive(Clone, Copy)]
-enum Input {
-    GoesOn,
-    Ended,
-}
 
 #[derive(Drop)]
 struct Desk {
@@ -31,7 +26,9 @@ struct Desk {
 
 impl Desk {
     fn new() -> Desk
-        ensures { (state result.session ≡ empty) × (held result.line ≡ []) × (result.number ≡ 1) }
+        ensures session { state result.session ≡ empty }
+        ensures line { held result.line ≡ [] }
+        ensures number { result.number ≡ 1 }
     {
         Desk {
             session: Session::new(),
@@ -67,7 +64,7 @@ impl Desk {
 
     // A last line may lack its line feed.
     fn end(&mut self, rt: &HostRuntime) -> anyhow::Result<()>
-        ensures { OnOk result ((held self.old.line ≡ [] → self.new ≡ self.old) × ((held self.old.line ≢ []) → LineEnded self.old self.new)) }
+        ensures { OnOk result (Ends self.old self.new) }
     {
         if self.line.as_slice().is_empty() {
             Ok(())
@@ -77,15 +74,15 @@ impl Desk {
     }
 
     // Takes what a read brought: nothing at all is the end of the input.
-    fn accept(&mut self, rt: &HostRuntime, bytes: &[u8]) -> anyhow::Result<Input>
-        ensures { IfOk result (λ input. Accepts bytes.now self.old self.new input) }
+    fn accept(&mut self, rt: &HostRuntime, bytes: &[u8]) -> anyhow::Result<ControlFlow<()>>
+        ensures { IfOk result (λ flow. Accepts bytes.now self.old self.new flow) }
     {
         if bytes.is_empty() {
             self.end(rt)?;
-            Ok(Input::Ended)
+            Ok(ControlFlow::Break(()))
         } else {
             self.take(rt, bytes)?;
-            Ok(Input::GoesOn)
+            Ok(ControlFlow::Continue(()))
         }
     }
 }
@@ -106,10 +103,11 @@ fn run(rt: &HostRuntime) -> anyhow::Result<()> {
     let mut chunk = [0; CHUNK];
     for _ in 0..u64::MAX {
         match input.read(&mut chunk) {
-            Ok(n) => match desk.accept(rt, &chunk[0..n])? {
-                Input::GoesOn => {}
-                Input::Ended => return Ok(()),
-            },
+            Ok(n) => {
+                if desk.accept(rt, &chunk[0..n])?.is_break() {
+                    return Ok(());
+                }
+            }
             Err(e) => go_on(e.kind(), e)?,
         }
     }

@@ -1,20 +1,8 @@
 -- The first word of a text, and the words after it.
-use Rattle.std.proofs.Common.{◌≡◌, ℕ, zero, suc, ◌+◌, ◌-◌, ◌<◌, Bool, true, false, not, ◌&&◌, eqb, List, [], ◌∷◌, ◌++◌, length, get_or, take, drop, sym, refl, ap, ◌∙◌, arith, length-append}
+use Rattle.std.proofs.Common.{◌≡◌, ℕ, zero, suc, Bool, true, not, ◌&&◌, eqb, List, [], ◌∷◌, ◌++◌, length, get_or, sym, refl, ap, ◌∙◌, arith}
 use Rattle.std.specs.List.{flat_map}
-use Rattle.std.proofs.lemmas.Slice.{first_rest}
 use Rattle.std.proofs.lemmas.Bool.{eqb-false, not-true, and_parts}
-use Rattle.lines.specs.Words.{Cut, Lacks, Unspaced, Follows, spaced}
-
-pub some : (bs : List ℕ) → false ≡ eqb (length bs) 0 → 0 < length bs
-some bs e = omega (arith, eqb-false (length bs) 0 (sym e))
-
--- what follows a word is a space, the next word and what follows that
-pub after_space : (bs word rest : List ℕ) → false ≡ eqb (length bs) 0 → Follows bs → Cut (take (length bs - 1) (drop 1 bs)) word rest → bs ≡ spaced word ++ rest
-after_space bs word rest e f c =
-    first_rest bs 0 (some bs e) ∙ ap (λ b. b ∷ take (length bs - 1) (drop 1 bs)) (f (some bs e)) ∙ ap (λ t. 32 ∷ t) c.whole
-
-pub after_length : (bs word rest : List ℕ) → bs ≡ spaced word ++ rest → length bs ≡ 1 + length word + length rest
-after_length bs word rest e = omega (arith, ap length e, length-append (spaced word) rest)
+use Rattle.lines.specs.Words.{Lacks, Unspaced, Follows, spaced}
 
 pub follows_joined : (ws : List (List ℕ)) → Follows (flat_map spaced ws)
 follows_joined [] h = absurd (omega arith)

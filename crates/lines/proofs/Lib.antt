@@ -1,5 +1,6 @@
 pub mod Numerals
 pub mod Buffers
+pub mod Outcomes
 pub mod Cuts
 pub mod Listings
 pub mod Readings

@@ -1,56 +1,47 @@
 -- From a name and the numbers after it to a command.
-use Rattle.std.proofs.Common.{◌≡◌, ℕ, ◌+◌, ◌^◌, ◌<◌, ◌≤◌, List, [], ◌∷◌, map, length, Some, None, codes, Option, sym, ap, ◌∙◌, subst, arith}
-use Rattle.std.proofs.lemmas.Fmt.{decimal_injective}
+use Rattle.std.proofs.Common.{◌≡◌, ℕ, ◌<◌, List, [], ◌∷◌, length, Some, None, codes, Option, sym, ap, subst, arith}
 use Rattle.lines.specs.declared.part.Part.{Part}
 use Rattle.lines.specs.declared.command.Command.{Command}
-use Rattle.lines.specs.Arguments.{Follow, Stand}
-use Rattle.lines.specs.Commands.{Holds, Reads, Picks, ParsesWords}
-use Rattle.lines.specs.Numbers.{Writes, Lists}
-use Rattle.lines.specs.Parts.{text, NextWord}
-use Rattle.lines.specs.Requests.{Request, heap, name_of, numbers_of, Bounded}
-use Rattle.lines.proofs.Cuts.{after_length}
-use Rattle.lines.proofs.Listings.{begun, lists_once, lists_some}
-use Rattle.lines.proofs.Readings.{lists_follow, request_by}
+use Rattle.lines.specs.declared.argument.Argument.{Argument}
+use Rattle.lines.specs.Arguments.{Follow, values}
+use Rattle.lines.specs.Commands.{Reads, Picks, ParsesWords}
+use Rattle.lines.specs.Parts.{text}
+use Rattle.lines.specs.Requests.{Request, types, heap, take, release, note, copy, tell, look, set, put, fetch}
+use Rattle.lines.proofs.Listings.{lists_once}
+use Rattle.lines.proofs.Readings.{lists_follow}
 
--- a word writes one number
-pub writes_once : (word : List ℕ) (m n : ℕ) → Writes word m → Writes word n → m ≡ n
-writes_once word m n v w = decimal_injective m n (omega (arith, v.0)) (omega (arith, w.0)) (sym v.1 ∙ w.1)
-
-pub picked : (name : List ℕ) (es : List (Part × ℕ)) (c : Command) (q : Request) → name ≡ name_of q → numbers_of q ≡ map (λ e. e.1) es → Bounded q → ((line : List ℕ) → Stand line (length (name_of q)) es → Holds c line q) → Picks name es (Some c)
-picked name es c q named numbered bounded h = λ line s. (
-  q,
-  record { named = sym named; numbered = numbered; bounded = bounded },
-  h line (subst (λ w. Stand line (length w) es) named s),
-)
-
-pub after_fits : (rest word after : Part) → NextWord rest word after → rest.at + length (text rest) < 2 ^ 64 → after.at + length (text after) < 2 ^ 64
-after_fits rest word after next h =
-    omega (arith, next.starts, next.goes_on, after_length (text rest) (text word) (text after) next.whole)
-
--- what is listed after a first number, where something follows it
-pub record Others (rest : List ℕ) (ns : List ℕ) : Type 0 where
-  pub others : List ℕ
-  pub listed : Lists rest others
-  pub some : 1 ≤ length others
-  pub fewer : length ns ≡ 1 + length others
-
-pub others_of : (rest word after : Part) → NextWord rest word after → 0 < length (text after) → (ns : List ℕ) → Lists (text rest) ns → Others (text after) ns
-others_of rest word after next h ns l =
-    let b = begun rest word after next ns l in
-    record {
-      others = b.others;
-      listed = b.goes_on;
-      some = lists_some (text after) b.others h b.goes_on;
-      fewer = omega (arith, ap length b.all);
-    }
-
-pub parsed : (name : List ℕ) (p : Part) (es : List (Part × ℕ)) (r : Option Command) → Follow p es → Picks name es r → ParsesWords name p r
+pub parsed : (name : List ℕ) (p : Part) (es : List Argument) (r : Option Command) → Follow p es → Picks name es r → ParsesWords name p r
 parsed name p es None f h = λ q ns reads l.
-    h q (subst (λ ms. Reads name ms q) (lists_once (text p) ns (map (λ e. e.1) es) l (lists_follow p es f)) reads)
+    h q (subst (λ ms. Reads name ms q) (lists_once (text p) ns (values es) l (lists_follow p es f)) reads)
 parsed name p es (Some c) f h = (es, f, h)
 
-pub too_large : (n : ℕ) → 1024 < n → (q : Request) → Reads (codes "heap") (n ∷ []) q → ⊥
-too_large n h q r =
-    let is : q ≡ heap n = request_by (codes "heap") (n ∷ []) q r.named r.numbered in
-    let small : n ≤ 1024 = subst Bounded is r.bounded in
-    omega arith
+-- no request with one number has another name than these
+pub none_with_one : (name : List ℕ) (n : ℕ) → (name ≡ codes "heap" → 1024 < n) → (name ≡ codes "take" → ⊥) → (name ≡ codes "release" → ⊥) → (name ≡ codes "tell" → ⊥) → (q : Request) → Reads name (n ∷ []) q → name ≡ codes "types"
+none_with_one name n large no_take no_release no_tell (types ns) r = sym r.named
+none_with_one name n large no_take no_release no_tell (heap l) r =
+    let h : 1024 < n = large (sym r.named) in
+    let same : l ≡ n = cc r.numbered in
+    absurd (omega (arith, r.bounded))
+none_with_one name n large no_take no_release no_tell (take h) r = absurd (no_take (sym r.named))
+none_with_one name n large no_take no_release no_tell (release h) r = absurd (no_release (sym r.named))
+none_with_one name n large no_take no_release no_tell (note h c x) r = absurd (omega (arith, ap length r.numbered))
+none_with_one name n large no_take no_release no_tell (copy g h) r = absurd (omega (arith, ap length r.numbered))
+none_with_one name n large no_take no_release no_tell (tell h) r = absurd (no_tell (sym r.named))
+none_with_one name n large no_take no_release no_tell (look h i) r = absurd (omega (arith, ap length r.numbered))
+none_with_one name n large no_take no_release no_tell (set h i x) r = absurd (omega (arith, ap length r.numbered))
+none_with_one name n large no_take no_release no_tell (put h i g) r = absurd (omega (arith, ap length r.numbered))
+none_with_one name n large no_take no_release no_tell (fetch h i g) r = absurd (omega (arith, ap length r.numbered))
+
+-- the same with three numbers
+pub none_with_three : (name : List ℕ) (l m n : ℕ) → (name ≡ codes "note" → ⊥) → (name ≡ codes "set" → ⊥) → (name ≡ codes "put" → ⊥) → (name ≡ codes "fetch" → ⊥) → (q : Request) → Reads name (l ∷ m ∷ n ∷ []) q → name ≡ codes "types"
+none_with_three name l m n no_note no_set no_put no_fetch (types ns) r = sym r.named
+none_with_three name l m n no_note no_set no_put no_fetch (heap k) r = absurd (omega (arith, ap length r.numbered))
+none_with_three name l m n no_note no_set no_put no_fetch (take h) r = absurd (omega (arith, ap length r.numbered))
+none_with_three name l m n no_note no_set no_put no_fetch (release h) r = absurd (omega (arith, ap length r.numbered))
+none_with_three name l m n no_note no_set no_put no_fetch (note h c x) r = absurd (no_note (sym r.named))
+none_with_three name l m n no_note no_set no_put no_fetch (copy g h) r = absurd (omega (arith, ap length r.numbered))
+none_with_three name l m n no_note no_set no_put no_fetch (tell h) r = absurd (omega (arith, ap length r.numbered))
+none_with_three name l m n no_note no_set no_put no_fetch (look h i) r = absurd (omega (arith, ap length r.numbered))
+none_with_three name l m n no_note no_set no_put no_fetch (set h i x) r = absurd (no_set (sym r.named))
+none_with_three name l m n no_note no_set no_put no_fetch (put h i g) r = absurd (no_put (sym r.named))
+none_with_three name l m n no_note no_set no_put no_fetch (fetch h i g) r = absurd (no_fetch (sym r.named))

@@ -4,7 +4,8 @@ use Rattle.std.specs.List.{flat_map}
 use Rattle.std.proofs.lemmas.List.{append_assoc, append-nil, drop_at, take_at}
 use Rattle.lines.specs.declared.part.Part.{Part}
 use Rattle.lines.specs.declared.command.Command.{Command}
-use Rattle.lines.specs.Arguments.{Follow, Stand}
+use Rattle.lines.specs.declared.argument.Argument.{Argument}
+use Rattle.lines.specs.Arguments.{Follow, Stand, values}
 use Rattle.lines.specs.Commands.{Holds, Says, ParsesTypes, ParsesWords}
 use Rattle.lines.specs.Numbers.{Lists}
 use Rattle.lines.specs.Parts.{text, Within}
@@ -77,18 +78,18 @@ within_rest line before after p e at =
     sym (ap (take (length (text p))) (ap (λ k. drop k line) at ∙ ap (drop (length before)) e ∙ drop_at before (text p ++ after) (length before) refl) ∙ take_at (text p) after (length (text p)) refl)
 
 -- what follows a word stands in the line
-stands : (line before : List ℕ) (p : Part) (es : List (Part × ℕ)) → line ≡ before ++ text p → p.at ≡ length before → Follow p es → Stand line p.at es
+stands : (line before : List ℕ) (p : Part) (es : List Argument) → line ≡ before ++ text p → p.at ≡ length before → Follow p es → Stand line p.at es
 stands line before p [] e at f = at ∙ ap length (sym (e ∙ ap (λ t. before ++ t) f ∙ append-nil before))
 stands line before p (x ∷ es) e at f =
     let next = f.1 in
-    let whole : line ≡ (before ++ 32 ∷ []) ++ (text x.0 ++ text f.0) = e ∙ ap (λ t. before ++ t) next.whole ∙ sym (append_assoc before (32 ∷ []) (text x.0 ++ text f.0)) in
-    let place : x.0.at ≡ length (before ++ 32 ∷ []) = omega (arith, next.starts, length-append before (32 ∷ [])) in
-    let later = stands line ((before ++ 32 ∷ []) ++ text x.0) f.0 es (whole ∙ sym (append_assoc (before ++ 32 ∷ []) (text x.0) (text f.0))) (omega (arith, next.goes_on, length-append (before ++ 32 ∷ []) (text x.0))) f.3 in
-    (next.starts, within_rest line (before ++ 32 ∷ []) (text f.0) x.0 whole place, f.2, subst (λ k. Stand line k es) next.goes_on later)
+    let whole : line ≡ (before ++ 32 ∷ []) ++ (text x.part ++ text f.0) = e ∙ ap (λ t. before ++ t) next.whole ∙ sym (append_assoc before (32 ∷ []) (text x.part ++ text f.0)) in
+    let place : x.part.at ≡ length (before ++ 32 ∷ []) = omega (arith, next.starts, length-append before (32 ∷ [])) in
+    let later = stands line ((before ++ 32 ∷ []) ++ text x.part) f.0 es (whole ∙ sym (append_assoc (before ++ 32 ∷ []) (text x.part) (text f.0))) (omega (arith, next.goes_on, length-append (before ++ 32 ∷ []) (text x.part))) f.2 in
+    (next.starts, within_rest line (before ++ 32 ∷ []) (text f.0) x.part whole place, subst (λ k. Stand line k es) next.goes_on later)
 
-pub lists_follow : (p : Part) (es : List (Part × ℕ)) → Follow p es → Lists (text p) (map (λ e. e.1) es)
+pub lists_follow : (p : Part) (es : List Argument) → Follow p es → Lists (text p) (values es)
 lists_follow p [] f = (tt, f)
-lists_follow p (x ∷ es) f = lists_more p x.0 f.0 x.1 f.1 f.2 (map (λ e. e.1) es) (lists_follow f.0 es f.3)
+lists_follow p (x ∷ es) f = lists_more p x.part f.0 x.value f.1 x.writes (values es) (lists_follow f.0 es f.2)
 
 no_types : (line word : List ℕ) (p : Part) → Cut line word (text p) → word ≡ codes "types" → ((ns : List ℕ) → Lists (text p) ns → length ns ≤ 64 → ⊥) → NoLine line
 no_types line word p c named h q l =
@@ -110,17 +111,17 @@ parsed_types line word p (Some k) short c at named h =
       subst (λ k. Holds k line (types ns)) (sym h.0) (within_rest line word [] p (c.whole ∙ ap (λ t. word ++ t) (sym (append-nil (text p)))) at, at ∙ ap length named, (ns, refl, h.1.1)),
     )
 
-pub parsed_words : (line word : List ℕ) (p : Part) (r : Option Command) → length line ≤ 400 → Cut line word (text p) → p.at ≡ length word → ParsesWords word p r → MatchOption r (NoLine line) (λ c. Says line c)
-parsed_words line word p None short c at h = λ q l.
+pub parsed_words : (line word : List ℕ) (p : Part) (r : Option Command) → length line ≤ 400 → Cut line word (text p) → p.at ≡ length word → (word ≡ codes "types" → ⊥) → ParsesWords word p r → MatchOption r (NoLine line) (λ c. Says line c)
+parsed_words line word p None short c at other h = λ q l.
     let b = begins_with line word (text p) q c l in
-    h q (numbers_of q) (record { named = sym b.0; numbered = refl; bounded = l.bounded }) b.1
-parsed_words line word p (Some k) short c at h =
+    other (h q (numbers_of q) (record { named = sym b.0; numbered = refl; bounded = l.bounded }) b.1)
+parsed_words line word p (Some k) short c at other h =
     let es = h.0 in
     let got = h.2 line (subst (λ k. Stand line k es) at (stands line word p es c.whole at h.1)) in
     let lists = lists_follow p es h.1 in (
       got.0,
       record {
-        written = c.whole ∙ ap (λ t. word ++ t) lists.1 ∙ ap (λ w. w ++ flat_map spaced (map decimal (map (λ e. e.1) es))) (sym got.1.named) ∙ ap (λ ns. name_of got.0 ++ flat_map spaced (map decimal ns)) (sym got.1.numbered);
+        written = c.whole ∙ ap (λ t. word ++ t) lists.1 ∙ ap (λ w. w ++ flat_map spaced (map decimal (values es))) (sym got.1.named) ∙ ap (λ ns. name_of got.0 ++ flat_map spaced (map decimal ns)) (sym got.1.numbered);
         short = short;
         bounded = got.1.bounded;
         small = (subst (λ ns. Lists (text p) ns) (sym got.1.numbered) lists).0;

@@ -1,33 +1,34 @@
 -- The numbers after a name, one after the other.
-use Rattle.std.specs.Prelude.{◌≡◌, ℕ, ◌+◌, ◌≤◌, List, [], ◌∷◌, length, Some, None, Option}
+use Rattle.std.specs.Prelude.{◌≡◌, ℕ, ◌+◌, ◌≤◌, List, [], ◌∷◌, map, length, Some, None, Option}
+use Rattle.lines.specs.declared.argument.Argument.{Argument}
 use Rattle.lines.specs.declared.arguments.Arguments.{Arguments}
 use Rattle.lines.specs.declared.arguments.Arguments.TheVariants.{One, Two, Three}
 use Rattle.lines.specs.declared.part.Part.{Part}
-use Rattle.lines.specs.Numbers.{Writes, Lists}
+use Rattle.lines.specs.Numbers.{Lists}
 use Rattle.lines.specs.Parts.{text, Within, NextWord}
 
--- the next word is a number, and what follows it; or no number comes next
-abbrev pub Leads : Part → Option (Part × Part) → Type 0
-Leads rest None = (ns : List ℕ) → Lists (text rest) ns → 1 ≤ length ns → ⊥
-Leads rest (Some p) = NextWord rest p.0 p.1 × ((n : ℕ) × Writes (text p.0) n)
+-- what they write
+abbrev pub values : List Argument → List ℕ
+values es = map (λ e. e.value) es
 
 -- the words that follow are these numbers, and no more
-abbrev pub Follow : Part → List (Part × ℕ) → Type 0
+abbrev pub Follow : Part → List Argument → Type 0
 Follow rest [] = text rest ≡ []
-Follow rest (e ∷ es) = (after : Part) × NextWord rest e.0 after × Writes (text e.0) e.1 × Follow after es
+Follow rest (e ∷ es) = (after : Part) × NextWord rest e.part after × Follow after es
 
-abbrev pub Gathers : Part → Arguments → Type 0
-Gathers rest (One p) = (n : ℕ) × Follow rest ((p, n) ∷ [])
-Gathers rest (Two p q) = (m : ℕ) × (n : ℕ) × Follow rest ((p, m) ∷ (q, n) ∷ [])
-Gathers rest (Three p q s) = (m : ℕ) × (n : ℕ) × (k : ℕ) × Follow rest ((p, m) ∷ (q, n) ∷ (s, k) ∷ [])
+-- the same as a list
+abbrev pub listed : Arguments → List Argument
+listed (One d) = d ∷ []
+listed (Two d e) = d ∷ e ∷ []
+listed (Three d e f) = d ∷ e ∷ f ∷ []
 
 -- one, two or three numbers follow, or anything else
 abbrev pub Gathered : Part → Option Arguments → Type 0
 Gathered rest None = (ns : List ℕ) → Lists (text rest) ns → 1 ≤ length ns → length ns ≤ 3 → ⊥
-Gathered rest (Some a) = Gathers rest a
+Gathered rest (Some a) = Follow rest (listed a)
 
--- from place k of the line on, each word stands after a space and writes its number, up to the end of the line
-abbrev pub Stand : List ℕ → ℕ → List (Part × ℕ) → Type 0
+-- from place k of the line on, each word stands after a space, up to the end of the line
+abbrev pub Stand : List ℕ → ℕ → List Argument → Type 0
 Stand line k [] = k ≡ length line
 Stand line k (e ∷ es) =
-    (e.0.at ≡ k + 1) × Within line e.0 × Writes (text e.0) e.1 × Stand line (e.0.at + length (text e.0)) es
+    (e.part.at ≡ k + 1) × Within line e.part × Stand line (e.part.at + length (text e.part)) es

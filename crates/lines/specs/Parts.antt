@@ -1,6 +1,7 @@
 -- Parts of a line, with their places.
 use Rattle.std.specs.Prelude.{◌≡◌, ℕ, ◌+◌, List, [], ◌++◌, length, take, drop, Some, None, Option}
 use Rattle.lines.specs.declared.part.Part.{Part}
+use Rattle.lines.specs.declared.words.Words.{Words}
 use Rattle.lines.specs.Words.{Unspaced, Follows, spaced}
 
 abbrev pub text : Part → List ℕ
@@ -18,6 +19,6 @@ pub record NextWord (rest word after : Part) : Type 0 where
   pub starts : word.at ≡ rest.at + 1
   pub goes_on : after.at ≡ word.at + length (text word)
 
-abbrev pub Next : Part → Option (Part × Part) → Type 0
-Next rest None = text rest ≡ []
-Next rest (Some p) = NextWord rest p.0 p.1
+abbrev pub GivesWord : Words → Option Part → Words → Type 0
+GivesWord w None v = (text w.rest ≡ []) × (text v.rest ≡ [])
+GivesWord w (Some p) v = NextWord w.rest p v.rest

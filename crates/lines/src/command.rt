@@ -1,15 +1,15 @@
-ghost use Rattle.std.specs.Prelude.{◌≡◌, ℕ, ◌+◌, ◌^◌, ◌<◌, [], ◌∷◌, length, codes, ◌≢◌};
+ghost use Rattle.std.specs.Prelude.{◌≡◌, [], ◌∷◌};
 ghost use Rattle.std.specs.Option as options;
 ghost use Rattle.std.specs.Result as results;
 ghost use Rattle.refusals.specs.declared.refusal.Refusal.TheVariants.{NotALine};
 ghost use Rattle.lines.specs.Commands.{ParsesTypes, ParsesWords, Picks, Says};
-ghost use Rattle.lines.specs.Numbers.{Writes};
 ghost use Rattle.lines.specs.Requests.{NoLine};
-ghost use Rattle.lines.specs.Words.{Follows};
 
+use crate::argument::Argument;
 use crate::arguments::{Arguments, gather};
-use crate::number::{number, numbers};
+use crate::number::numbers;
 use crate::part::{Part, cut};
+use crate::words::Words;
 use refusals::refusal::Refusal;
 
 const LONGEST_LINE: usize = 400;
@@ -21,149 +21,126 @@ const LARGEST_HEAP: u32 = 1024;
 // What a line asks for, by its parts.
 #[derive(Clone, Copy)]
 pub enum Command<'a> {
-    // The numbers of a table, each after a space.
+    // The numbers of a table, each after a space: their text alone, so that a command is `Copy`.
     Types {
         numbers: Part<'a>,
     },
     Heap {
-        length: Part<'a>,
+        length: Argument<'a>,
     },
     Take {
-        hold: Part<'a>,
+        hold: Argument<'a>,
     },
     Release {
-        hold: Part<'a>,
+        hold: Argument<'a>,
     },
     Note {
-        hold: Part<'a>,
-        code: Part<'a>,
-        number: Part<'a>,
+        hold: Argument<'a>,
+        code: Argument<'a>,
+        number: Argument<'a>,
     },
     Copy {
-        from: Part<'a>,
-        to: Part<'a>,
+        from: Argument<'a>,
+        to: Argument<'a>,
     },
     Tell {
-        hold: Part<'a>,
+        hold: Argument<'a>,
     },
     Look {
-        hold: Part<'a>,
-        word: Part<'a>,
+        hold: Argument<'a>,
+        word: Argument<'a>,
     },
     Set {
-        hold: Part<'a>,
-        word: Part<'a>,
-        number: Part<'a>,
+        hold: Argument<'a>,
+        word: Argument<'a>,
+        number: Argument<'a>,
     },
     Put {
-        hold: Part<'a>,
-        word: Part<'a>,
-        from: Part<'a>,
+        hold: Argument<'a>,
+        word: Argument<'a>,
+        from: Argument<'a>,
     },
     Fetch {
-        hold: Part<'a>,
-        word: Part<'a>,
-        to: Part<'a>,
+        hold: Argument<'a>,
+        word: Argument<'a>,
+        to: Argument<'a>,
     },
 }
 
 fn parse_types<'a>(follow: Part<'a>) -> Option<Command<'a>>
     ensures { ParsesTypes follow.entry result }
 {
-    let mut words = [0; MOST_WORDS];
-    numbers(follow.text, &mut words)?;
+    numbers::<MOST_WORDS>(follow.text)?;
     Some(Command::Types { numbers: follow })
 }
 
-fn parse_heap<'a>(length: Part<'a>) -> Option<Command<'a>>
-    ensures { (n : ℕ) → Writes length.entry.text.now n → Picks (codes "heap") ((length.entry, n) ∷ []) result }
+// One function for each count of numbers: the last arm of one match on names and numbers has some fifty cases.
+fn with_one<'a>(name: &[u8], number: Argument<'a>) -> Option<Command<'a>>
+    ensures { Picks name.now (number.entry ∷ []) result }
 {
-    if number(length.text)? > LARGEST_HEAP {
-        return None;
-    }
-    Some(Command::Heap { length })
-}
-
-fn with_one<'a>(name: &[u8], hold: Part<'a>) -> Option<Command<'a>>
-    requires { name.now ≢ codes "types" }
-    ensures { (n : ℕ) → Writes hold.entry.text.now n → Picks name.now ((hold.entry, n) ∷ []) result }
-{
-    if name == b"heap".as_slice() {
-        parse_heap(hold)
-    } else if name == b"take".as_slice() {
-        Some(Command::Take { hold })
-    } else if name == b"release".as_slice() {
-        Some(Command::Release { hold })
-    } else if name == b"tell".as_slice() {
-        Some(Command::Tell { hold })
-    } else {
-        None
+    match name {
+        b"heap" if number.value <= LARGEST_HEAP => Some(Command::Heap { length: number }),
+        b"take" => Some(Command::Take { hold: number }),
+        b"release" => Some(Command::Release { hold: number }),
+        b"tell" => Some(Command::Tell { hold: number }),
+        _ => None,
     }
 }
 
-fn with_two<'a>(name: &[u8], first: Part<'a>, second: Part<'a>) -> Option<Command<'a>>
-    requires { name.now ≢ codes "types" }
-    ensures { (m : ℕ) (n : ℕ) → Picks name.now ((first.entry, m) ∷ (second.entry, n) ∷ []) result }
+fn with_two<'a>(name: &[u8], first: Argument<'a>, second: Argument<'a>) -> Option<Command<'a>>
+    ensures { Picks name.now (first.entry ∷ second.entry ∷ []) result }
 {
-    if name == b"copy".as_slice() {
-        Some(Command::Copy {
+    match name {
+        b"copy" => Some(Command::Copy {
             from: first,
             to: second,
-        })
-    } else if name == b"look".as_slice() {
-        Some(Command::Look {
+        }),
+        b"look" => Some(Command::Look {
             hold: first,
             word: second,
-        })
-    } else {
-        None
+        }),
+        _ => None,
     }
 }
 
 fn with_three<'a>(
     name: &[u8],
-    hold: Part<'a>,
-    second: Part<'a>,
-    third: Part<'a>,
+    hold: Argument<'a>,
+    second: Argument<'a>,
+    third: Argument<'a>,
 ) -> Option<Command<'a>>
-    requires { name.now ≢ codes "types" }
-    ensures { (l : ℕ) (m : ℕ) (n : ℕ) → Picks name.now ((hold.entry, l) ∷ (second.entry, m) ∷ (third.entry, n) ∷ []) result }
+    ensures { Picks name.now (hold.entry ∷ second.entry ∷ third.entry ∷ []) result }
 {
-    if name == b"note".as_slice() {
-        Some(Command::Note {
+    match name {
+        b"note" => Some(Command::Note {
             hold,
             code: second,
             number: third,
-        })
-    } else if name == b"set".as_slice() {
-        Some(Command::Set {
+        }),
+        b"set" => Some(Command::Set {
             hold,
             word: second,
             number: third,
-        })
-    } else if name == b"put".as_slice() {
-        Some(Command::Put {
+        }),
+        b"put" => Some(Command::Put {
             hold,
             word: second,
             from: third,
-        })
-    } else if name == b"fetch".as_slice() {
-        Some(Command::Fetch {
+        }),
+        b"fetch" => Some(Command::Fetch {
             hold,
             word: second,
             to: third,
-        })
-    } else {
-        None
+        }),
+        _ => None,
     }
 }
 
-fn parse_words<'a>(name: &[u8], follow: Part<'a>) -> Option<Command<'a>>
-    requires { Follows follow.text.now × (follow.at + length follow.text.now < 2 ^ 64) × (name.now ≢ codes "types") }
-    ensures { ParsesWords name.now follow.entry result }
+fn parse_words<'a>(name: &[u8], follow: Words<'a>) -> Option<Command<'a>>
+    ensures { ParsesWords name.now follow.entry.rest result }
 {
     match gather(follow)? {
-        Arguments::One(hold) => with_one(name, hold),
+        Arguments::One(number) => with_one(name, number),
         Arguments::Two(first, second) => with_two(name, first, second),
         Arguments::Three(hold, second, third) => with_three(name, hold, second, third),
     }
@@ -180,10 +157,9 @@ fn parse<'a>(line: &'a [u8]) -> Option<Command<'a>>
         text,
         at: name.len(),
     };
-    if name == b"types".as_slice() {
-        parse_types(follow)
-    } else {
-        parse_words(name, follow)
+    match name {
+        b"types" => parse_types(follow),
+        _ => parse_words(name, Words { rest: follow }),
     }
 }
 

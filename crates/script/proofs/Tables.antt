@@ -1,14 +1,15 @@
 -- What a table brings.
-use Rattle.std.proofs.Common.{◌≡◌, ℕ, false, List, is_some, Some, None, Ok, Err, Option, Result, sym, refl, ap, ◌∙◌, subst, inl, arith, MatchResult}
-use Rattle.refusals.specs.declared.refusal.Refusal.{Refusal}
+use Rattle.std.proofs.Common.{◌≡◌, ℕ, false, List, is_some, Some, None, Ok, Err, Option, Result, sym, refl, ap, ◌∙◌, subst, inl, MatchResult}
 use Rattle.layouts.specs.Table.{table_refusal}
 use Rattle.sources.specs.Errors.{NoTable}
 use Rattle.sources.specs.Words.{words_of}
 use Rattle.sources.specs.declared.error.TableError.{TableError}
+use Rattle.sources.specs.declared.error.TableError.TheVariants.{Refused, NoMemory}
 use Rattle.sources.specs.declared.table.Table.{Table}
 use Rattle.lines.specs.Requests.{types}
-use Rattle.script.specs.declared.reply.Reply.TheVariants.{Done, Refused}
+use Rattle.script.specs.declared.reply.Reply.TheVariants.{Done}
 use Rattle.script.specs.declared.store.Store.{Store}
+use Rattle.script.specs.Coming.{ComesTo, failure_of}
 use Rattle.script.specs.Obeying.{typed, Brings}
 use Rattle.script.specs.Session.{with_store}
 
@@ -18,13 +19,14 @@ table_is P ns ws (Err f) e h = subst (λ ws. NoTable ws f) e h
 
 none_from : {X : Type 0} (o : Option X) → is_some o ≡ false → o ≡ None
 none_from None e = refl
-none_from (Some x) e = absurd (let z : ◌≡◌ {A = ℕ} 0 1 = cc in omega arith)
+none_from (Some x) e = cc
 
-pub accepted : (o : Option Store) (number : ℕ) (ns : List ℕ) (t : Table) → false ≡ is_some o → words_of t ≡ ns → Brings (with_store o) number (types ns) (typed (words_of t)) Done
+pub accepted : (o : Option Store) (number : ℕ) (ns : List ℕ) (t : Table) → false ≡ is_some o → words_of t ≡ ns → Brings (with_store o) number (types ns) (typed (words_of t)) (Ok Done)
 accepted None number ns t e is =
     inl (refl, (Ok tt, (ap table_refusal (sym is) ∙ none_from (table_refusal (words_of t)) t.accepted, ap typed is), refl))
-accepted (Some s) number ns t e is = absurd (let z : ◌≡◌ {A = ℕ} 0 1 = cc in omega arith)
+accepted (Some s) number ns t e is = cc
 
-pub not_accepted : (o : Option Store) (number : ℕ) (ns : List ℕ) (f : Refusal) → false ≡ is_some o → table_refusal ns ≡ Some f → Brings (with_store o) number (types ns) (with_store o) (Refused f)
-not_accepted None number ns f e h = inl (refl, (Err f, (h, refl), refl))
-not_accepted (Some s) number ns f e h = absurd (let z : ◌≡◌ {A = ℕ} 0 1 = cc in omega arith)
+pub not_accepted : (o : Option Store) (number : ℕ) (ns : List ℕ) (e : TableError) (lost : Type 0) → false ≡ is_some o → NoTable ns e → lost → ComesTo (λ r. Brings (with_store o) number (types ns) (with_store o) r) lost (Err (failure_of e))
+not_accepted None number ns (Refused f) lost e h same = inl (refl, (Err f, (h, refl), refl))
+not_accepted None number ns NoMemory lost e h same = same
+not_accepted (Some s) number ns f lost e h same = cc e

@@ -1,5 +1,5 @@
 -- What a request brings: the state of a session before and after, and the reply.
-use Rattle.std.specs.Prelude.{◌≡◌, ℕ, ◌⊎◌, List, replicate, Option, Result}
+use Rattle.std.specs.Prelude.{◌≡◌, ℕ, ◌⊎◌, List, replicate, Err, Option, Result}
 use Rattle.refusals.specs.declared.refusal.Refusal.{Refusal}
 use Rattle.refusals.specs.declared.refusal.Refusal.TheVariants.{NotALine}
 use Rattle.layouts.specs.Over.{over}
@@ -12,8 +12,8 @@ use Rattle.calls.specs.Calls.{Takes, Releases, Notes, Copies, Tells, Looks, Sets
 use Rattle.heap.specs.Memory.{row_1, new_words}
 use Rattle.lines.specs.Requests.{Request, types, heap, take, release, note, copy, tell, look, set, put, fetch}
 use Rattle.script.specs.declared.reply.Reply.{Reply}
-use Rattle.script.specs.declared.reply.Reply.TheVariants.{Number, Has, Refused}
-use Rattle.script.specs.Replies.{replied, done}
+use Rattle.script.specs.declared.reply.Reply.TheVariants.{Number, Has}
+use Rattle.script.specs.Replies.{Outcome, replied, done}
 
 pub data State : Type 0 where
   -- no table was accepted
@@ -51,7 +51,7 @@ abbrev pub InOrder : State → Request → Type 0
 InOrder s q = phase s ≡ phase_of q
 
 -- refused where a row is due, and then all is as it was; else the state is the next one
-abbrev pub Settles : Option Refusal → State → State → State → Reply → Type 0
+abbrev pub Settles : Option Refusal → State → State → State → Outcome → Type 0
 Settles due s next t r = (x : Result (Unit {0}) Refusal) × calls.Answers due (t ≡ s) (λ _. t ≡ next) x × (r ≡ done x)
 
 abbrev pub OnTable : State → (List ℕ → Type 0) → Type 0
@@ -65,22 +65,22 @@ OnHeap (typed ns) P = ⊥
 OnHeap (ready ns w rs) P = P ns w rs
 
 -- a call that changes the hold records at most
-abbrev pub OnHolds : State → State → Reply → (Types → List ℕ → List HoldRecord → List HoldRecord → Result (Unit {0}) Refusal → Type 0) → Type 0
+abbrev pub OnHolds : State → State → Outcome → (Types → List ℕ → List HoldRecord → List HoldRecord → Result (Unit {0}) Refusal → Type 0) → Type 0
 OnHolds s t r Call = OnHeap s (λ ns w rs.
     (rs' : List HoldRecord) × (x : Result (Unit {0}) Refusal) × Call (over (table ns)) w rs rs' x × (t ≡ ready ns w rs') × (r ≡ done x))
 
 -- a call that changes the words at most
-abbrev pub OnWords : State → State → Reply → (Types → List ℕ → List HoldRecord → List ℕ → Result (Unit {0}) Refusal → Type 0) → Type 0
+abbrev pub OnWords : State → State → Outcome → (Types → List ℕ → List HoldRecord → List ℕ → Result (Unit {0}) Refusal → Type 0) → Type 0
 OnWords s t r Call = OnHeap s (λ ns w rs.
     (w' : List ℕ) × (x : Result (Unit {0}) Refusal) × Call (over (table ns)) w rs w' x × (t ≡ ready ns w' rs) × (r ≡ done x))
 
 -- a call that changes nothing
-abbrev pub OnNone : {X : Type 0} → State → State → Reply → (X → Reply) → (Types → List ℕ → List HoldRecord → Result X Refusal → Type 0) → Type 0
+abbrev pub OnNone : {X : Type 0} → State → State → Outcome → (X → Reply) → (Types → List ℕ → List HoldRecord → Result X Refusal → Type 0) → Type 0
 OnNone {X} s t r reply Call = OnHeap s (λ ns w rs.
     (x : Result X Refusal) × Call (over (table ns)) w rs x × (t ≡ s) × (r ≡ replied reply x))
 
 -- what a request in order brings, by the relation of its call
-abbrev pub Obeys : State → Request → State → Reply → Type 0
+abbrev pub Obeys : State → Request → State → Outcome → Type 0
 Obeys s (types ns) t r = Settles (table_refusal ns) s (typed ns) t r
 Obeys s (heap l) t r = OnTable s (λ ns. Settles (row_1 l l) s (ready ns (new_words l) (replicate 64 unheld)) t r)
 Obeys s (take h) t r = OnHolds s t r (λ m w rs rs' x. Takes rs h rs' x)
@@ -94,6 +94,6 @@ Obeys s (put h i g) t r = OnWords s t r (λ m w rs w' x. Puts m w rs h i g w' x)
 Obeys s (fetch h i g) t r = OnHolds s t r (λ m w rs rs' x. Fetches m w rs h i g rs' x)
 
 -- out of order: no line of the script
-abbrev pub Brings : State → ℕ → Request → State → Reply → Type 0
+abbrev pub Brings : State → ℕ → Request → State → Outcome → Type 0
 Brings s number q t r =
-    (InOrder s q × Obeys s q t r) ⊎ ((InOrder s q → ⊥) × (t ≡ s) × (r ≡ Refused (NotALine number)))
+    (InOrder s q × Obeys s q t r) ⊎ ((InOrder s q → ⊥) × (t ≡ s) × (r ≡ Err (NotALine number)))

@@ -1,18 +1,16 @@
 -- What a session prints for a line, and what it becomes.
-use Rattle.std.specs.Prelude.{◌≡◌, ℕ, ◌⊎◌, List, Some, None, Option}
+use Rattle.std.specs.Prelude.{◌≡◌, ℕ, ◌⊎◌, List, Some, None, Err, Option}
 use Rattle.refusals.specs.declared.refusal.Refusal.TheVariants.{NotALine}
 use Rattle.sources.specs.declared.over.Over.{Over}
 use Rattle.sources.specs.declared.table.Table.{Table}
 use Rattle.sources.specs.Words.{words_of}
 use Rattle.lines.specs.Requests.{Request, Line}
 use Rattle.lines.specs.Words.{OneLine}
-use Rattle.script.specs.declared.reply.Reply.{Reply}
-use Rattle.script.specs.declared.reply.Reply.TheVariants.{Refused}
 use Rattle.script.specs.declared.session.Session.{Session}
 use Rattle.script.specs.declared.store.Heap.{Heap}
 use Rattle.script.specs.declared.store.Store.{Store}
 use Rattle.script.specs.Obeying.{State, empty, typed, ready, InOrder, Obeys}
-use Rattle.script.specs.Replies.{printed}
+use Rattle.script.specs.Replies.{Outcome, printed}
 
 abbrev pub table_words : Over Table → List ℕ
 table_words o = words_of o.below
@@ -39,5 +37,5 @@ Asks line s q = Line line q × InOrder s q
 pub record Answers (line : List ℕ) (number : ℕ) (s : State) (bytes : List ℕ) (t : State) : Type 0 where
   pub one_line : OneLine bytes
   pub asked : ((q : Request) × Asks line s q) ⊎ ((q : Request) → Asks line s q → ⊥)
-  pub obeyed : (q : Request) → Asks line s q → (r : Reply) × Obeys s q t r × (bytes ≡ printed r)
-  pub other : ((q : Request) → Asks line s q → ⊥) → (bytes ≡ printed (Refused (NotALine number))) × (t ≡ s)
+  pub obeyed : (q : Request) → Asks line s q → (r : Outcome) × Obeys s q t r × (bytes ≡ printed r)
+  pub other : ((q : Request) → Asks line s q → ⊥) → (bytes ≡ printed (Err (NotALine number))) × (t ≡ s)

@@ -1,13 +1,14 @@
-use Rattle.std.proofs.Common.{refl, arith, ◌∙◌}
-use Rattle.std.proofs.lemmas.Slice.Eq.{slice_eq-Decides}
+use Rattle.std.proofs.Common.{◌≡◌, codes, refl, arith}
+use Rattle.std.proofs.lemmas.Grind.{common_steps}
 use Rattle.lines.proofs.Readings.{parsed_types, parsed_words}
 use Rattle.lines.proofs.command.parse.Goals as goal
-use Rattle.std.proofs.lemmas.Bool.Decides.{Decides-eqb}
 
-pub returns-then-eq : goal.returns-then-eq
-returns-then-eq c =
-    parsed_types c.args.line.now c.cut.result.0.now _ c.parse_types.result (omega arith) c.cut.ensures refl ((slice_eq-Decides Decides-eqb _ _ _ c.eq.ensures).0 c.if-eq.true ∙ c.as_slice.ensures) c.parse_types.ensures
+pub returns-in-types : goal.returns-in-types
+returns-in-types c =
+    let named : c.cut.result.0.now ≡ codes "types" = grind (arith, common_steps) in
+    parsed_types c.args.line.now c.cut.result.0.now _ c.parse_types.result (omega arith) c.cut.ensures refl named c.parse_types.ensures
 
-pub returns-else-eq : goal.returns-else-eq
-returns-else-eq c =
-    parsed_words c.args.line.now c.cut.result.0.now _ c.parse_words.result (omega arith) c.cut.ensures refl c.parse_words.ensures
+pub returns-in_default : goal.returns-in_default
+returns-in_default c =
+    let other : c.cut.result.0.now ≡ codes "types" → ⊥ = grind (arith, common_steps) in
+    parsed_words c.args.line.now c.cut.result.0.now _ c.parse_words.result (omega arith) c.cut.ensures refl other c.parse_words.ensures

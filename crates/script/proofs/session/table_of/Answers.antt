@@ -1,8 +1,8 @@
-use Rattle.std.proofs.Common.{arith}
-use Rattle.script.proofs.Numbers.{counted}
+use Rattle.std.proofs.Common.{◌∙◌}
+use Rattle.script.proofs.Numbers.{collected}
 use Rattle.script.proofs.Tables.{table_is}
 use Rattle.script.proofs.session.table_of.Goals as goal
 
 pub returns : goal.returns
 returns c = λ ns l few.
-    table_is _ ns _ c.new.result (counted c.args.follow.text.now c.numbers.new.buffer c.numbers.result c.unwrap_or-count.result (omega arith) c.numbers.ensures c.unwrap_or-count.ensures ns l few) c.new.ensures
+    table_is _ ns _ c.new.result (c.as_slice.ensures.value ∙ collected _ c.args.follow.text.now c.numbers.result c.unwrap_or_default-words.result c.numbers.ensures c.unwrap_or_default-words.ensures ns l few) c.new.ensures

@@ -1,12 +1,13 @@
-use Rattle.std.proofs.Common.{subst}
-use Rattle.sources.specs.Errors.{NoTable}
+use Rattle.std.proofs.Common.{refl}
+use Rattle.std.proofs.lemmas.Result.{err_from_is_err_and}
 use Rattle.script.proofs.Tables.{accepted, not_accepted}
 use Rattle.script.proofs.session.Session.take_types.Goals as goal
 
-pub returns-in-Ok : goal.returns-in-Ok
-returns-in-Ok c = λ ns l few.
-    accepted c.args.self.now.store c.args.number ns c.in-Ok.table c.if-is_some.ensures (c.in-Ok.ensures ns l few)
+pub returns-in_err-table : goal.returns-in_err-table
+returns-in_err-table c =
+    let p = err_from_is_err_and c.from_residual.result c.from_residual.ensures.1 in
+    rw (p.1, p.2) (λ ns l few. not_accepted c.args.self.now.store c.args.number ns c.in_err-table.field-0.0 _ c.if-is_some.ensures (c.in_err-table.ensures ns l few) refl)
 
-pub returns-in-Refused : goal.returns-in-Refused
-returns-in-Refused c = λ ns l few.
-    not_accepted c.args.self.now.store c.args.number ns c.in-Refused.refusal c.if-is_some.ensures (subst (NoTable ns) c.in-Refused.is (c.in-Err.ensures ns l few))
+pub returns : goal.returns
+returns c = λ ns l few.
+    accepted c.args.self.now.store c.args.number ns c.in_ok-table.table c.if-is_some.ensures (c.in_ok-table.ensures ns l few)

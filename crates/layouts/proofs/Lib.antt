@@ -1,4 +1,3 @@
-pub mod Inside
 pub mod RuleLaws
 pub mod OverLaws
 pub mod MaskLaws

@@ -1,5 +1,5 @@
 -- The lowest place at which a refusal is due.
-use Rattle.std.proofs.Common.{◌≡◌, ℕ, zero, suc, ◌+◌, ◌<◌, Some, None, Option, sym, refl, ap, ◌∙◌, subst, inl, inr, add-one, arith}
+use Rattle.std.proofs.Common.{◌≡◌, ℕ, zero, suc, ◌<◌, Some, None, Option, sym, refl, ap, ◌∙◌, subst, inl, inr, arith}
 use Rattle.std.proofs.lemmas.Bool.{cases_order}
 use Rattle.std.specs.Option.{option_or}
 use Rattle.refusals.specs.declared.refusal.Refusal.{Refusal}
@@ -21,9 +21,6 @@ lowest_none f (suc n) e k h =
 pub lowest_from : (f : ℕ → Option Refusal) (n : ℕ) → ((k : ℕ) → k < n → f k ≡ None) → lowest f n ≡ None
 lowest_from f zero h = refl
 lowest_from f (suc n) h = ap (λ o. option_or o (f n)) (lowest_from f n (λ k l. h k (omega arith))) ∙ h n (omega arith)
-
-pub lowest_more : (f : ℕ → Option Refusal) (k : ℕ) → lowest f k ≡ None → f k ≡ None → lowest f (k + 1) ≡ None
-lowest_more f k e h = rw add-one (ap (λ o. option_or o (f k)) e ∙ h)
 
 -- the first refusal that is found is the lowest
 pub lowest_found : (f : ℕ → Option Refusal) (k n : ℕ) (r : Refusal) → k < n → lowest f k ≡ None → f k ≡ Some r → lowest f n ≡ Some r

@@ -1,5 +1,5 @@
 -- What the finding of a cell answers, from what its steps answer.
-use Rattle.std.proofs.Common.{◌≡◌, ℕ, ◌≤◌, List, length, Some, None, Ok, Err, Option, Result, refl, sym, ap, ◌∙◌, subst, arith}
+use Rattle.std.proofs.Common.{◌≡◌, ℕ, ◌≤◌, List, length, Some, None, Ok, Err, Option, Result, false, is_some, refl, sym, ap, ◌∙◌, subst, arith}
 use Rattle.std.specs.Option.{ok_or}
 use Rattle.std.proofs.lemmas.Bool.Decides.{nat_tests}
 use Rattle.refusals.specs.declared.refusal.Refusal.{Refusal}
@@ -15,12 +15,14 @@ use Rattle.calls.specs.Rows.{memory_due}
 use Rattle.sweeping.proofs.Rooms.{never_broken}
 use Rattle.making.specs.Makes.{Collected, swept, Found, broken_link, broken_content, collected, no_run}
 
--- memory that a collection may be made in is a heap
-pub heap_of : (w : List ℕ) (M P : ℕ) → memory_due (length w) M P ≡ None → Heap w
-heap_of w M P large = record { some = grind (arith, nat_tests); long = grind (arith, nat_tests) }
+-- memory that a collection may be made in
+pub is_large : (due : Option Refusal) → is_some due ≡ false → due ≡ None
+is_large None e = refl
+is_large (Some f) e = absurd (cc e)
 
-pub heap_after : (w u : List ℕ) → length u ≡ length w → Heap w → Heap u
-heap_after w u long heap = record { some = omega (arith, long, heap.some); long = omega (arith, long, heap.long) }
+-- is a heap
+pub heap_of : (w : List ℕ) (M P : ℕ) → is_some (memory_due (length w) M P) ≡ false → Heap w
+heap_of w M P large = record { some = grind (arith, nat_tests); long = grind (arith, nat_tests) }
 
 -- where the words are a heap and the cell has words, only a broken link is in the way
 pub at_fault : (w : List ℕ) (n : ℕ) (w' : List ℕ) (f : Fault) → Heap w → 1 ≤ n → Taken w n w' (Err f)

@@ -2,3 +2,4 @@
 #![tactic(auto)]
 
 pub mod by_number;
+mod collector;

@@ -3,3 +3,4 @@ pub mod Numbers
 pub mod Tables
 pub mod Orders
 pub mod Heaps
+pub mod Mapped

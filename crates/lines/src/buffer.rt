@@ -1,4 +1,4 @@
-ghost use Rattle.std.specs.Prelude.{◌≡◌, [], ◌∷◌, ◌++◌, take};
+ghost use Rattle.std.specs.Prelude.{◌≡◌, ◌≤◌, [], ◌∷◌, ◌++◌, length, take};
 ghost use Rattle.lines.specs.Buffer.{held};
 
 use arrayvec::ArrayVec;
@@ -34,7 +34,8 @@ impl LineBuffer {
     }
 
     pub fn as_slice(&self) -> &[u8]
-        ensures { result.now ≡ held self.now }
+        ensures value { result.now ≡ held self.now }
+        ensures fits { length result.now ≤ 401 }
     {
         self.bytes.as_slice()
     }

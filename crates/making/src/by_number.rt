@@ -23,8 +23,7 @@ pub fn make<S: TemplateSource>(
     ensures { Makes (S.TemplateSource.meaning source.now) words.old holds.old.records hold code (length pending.old) marks.old words.new holds.new.records marks.new result }
 {
     check_pending(words.len(), marks.len(), pending.len())?;
-    marks.fill(0);
-    let guard = Marks { bytes: marks };
+    let guard = Marks::cleared(marks);
     let n = size_for(holds, source, hold, code)?;
     let mut collector = Collector {
         words,

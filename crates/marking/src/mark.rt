@@ -49,8 +49,7 @@ pub fn mark_holds<S: TemplateSource>(
     ensures { Marking (S.TemplateSource.meaning source.now) words.now holds.now.records (length pending.old) marks.old marks.new result }
 {
     check_pending(words.len(), marks.len(), pending.len())?;
-    marks.fill(0);
-    let guard = Marks { bytes: marks };
+    let guard = Marks::cleared(marks);
     let visits = scan_roots(words, guard.bytes, pending, holds.records(), source)?;
     guard.keep();
     Ok(visits)

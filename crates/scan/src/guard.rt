@@ -14,7 +14,16 @@ impl Drop for Marks<'_> {
     }
 }
 
-impl Marks<'_> {
+impl<'a> Marks<'a> {
+    // Holds the lent bytes, all set to zero first.
+    pub fn cleared(bytes: &'a mut [u8]) -> Marks<'a>
+        ensures same_reference { result.bytes.ghost_name ≡ bytes.entry.ghost_name }
+        ensures zeroed { result.bytes.now ≡ replicate (length bytes.entry.now) 0 }
+    {
+        bytes.fill(0);
+        Marks { bytes }
+    }
+
     // Leaves the bytes as they are.
     pub fn keep(self)
         ensures { self.exit.0.now ≡ self.entry.bytes.now }

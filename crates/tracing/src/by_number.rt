@@ -24,8 +24,7 @@ pub fn trace<S: TemplateSource, I: Inspector>(
     ensures { Traces (S.TemplateSource.meaning source.now) words.now I.Inspector.step holds.now.records hold (length pending.old) marks.old inspector.old marks.new inspector.new result }
 {
     check_pending(words.len(), marks.len(), pending.len())?;
-    marks.fill(0);
-    let guard = Marks { bytes: marks };
+    let guard = Marks::cleared(marks);
     let (code, address) = cell_of(words.len(), holds, source, hold)?;
     let scanned = scan(
         words,

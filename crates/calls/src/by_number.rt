@@ -1,9 +1,8 @@
-ghost use Rattle.std.specs.Prelude.{◌≡◌, ◌<◌, ◌≤◌, true, length};
+ghost use Rattle.std.specs.Prelude.{◌≡◌, true};
 ghost use Rattle.cells.specs.declared.content.Content.TheVariants.{Cell};
 ghost use Rattle.cells.specs.Words.{fits};
-ghost use Rattle.calls.specs.Calls.{Answers, Takes, Releases, Notes, Copies, Tells, Looks, Sets, Puts, Fetches, cell_due, plain_due, pair_due, place_at};
+ghost use Rattle.calls.specs.Calls.{Answers, Takes, Releases, Notes, Copies, Tells, Looks, Sets, Puts, Fetches, cell_due};
 ghost use Rattle.calls.specs.Holds.{at, holding};
-ghost use Rattle.calls.specs.Known.{Known};
 
 use crate::find::{View, accepts, is_reference};
 use crate::holds::{Holds, check_number};

@@ -1,4 +1,4 @@
-ghost use Rattle.std.specs.Prelude.{◌≡◌, ℕ, ◌<◌, true, [], ◌∷◌};
+ghost use Rattle.std.specs.Prelude.{◌≡◌, ℕ, ◌<◌, true};
 ghost use Rattle.layouts.specs.Classes.{class_of};
 ghost use Rattle.cells.specs.declared.content.Content.TheVariants.{Cell};
 ghost use Rattle.cells.specs.Words.{fits, place, value_word};

@@ -2,12 +2,8 @@ ghost use Rattle.std.specs.Prelude.{◌≡◌};
 ghost use Rattle.std.specs.Result.{result_err};
 ghost use Rattle.calls.specs.Rows.{row_1, memory_due};
 
+pub use refusals::limits::{FEWEST_WORDS, MOST_WORDS};
 use refusals::refusal::Refusal;
-
-// The fewest and the most words of a heap.
-pub const FEWEST_WORDS: usize = 2;
-
-pub const MOST_WORDS: usize = 65536;
 
 // Refuses memory that no heap may stand on.
 pub fn check_memory(words: usize, marks: usize) -> Result<(), Refusal>

@@ -1,4 +1,4 @@
-ghost use Rattle.std.specs.Prelude.{◌≡◌, ℕ, ◌+◌, slice_index, slice_set};
+ghost use Rattle.std.specs.Prelude.{◌≡◌, ℕ, slice_index, slice_set};
 ghost use Rattle.cells.specs.Words.{fits, words_in, fitting_cell, pointer_says, says, with_content};
 
 use crate::content::Content;

@@ -1,4 +1,4 @@
-ghost use Rattle.std.specs.Prelude.{◌≡◌, ◌+◌, ◌-◌, ◌≤◌};
+ghost use Rattle.std.specs.Prelude.{◌≡◌, ◌+◌, ◌-◌};
 ghost use Rattle.free_list.specs.Free.{FirstFit};
 ghost use Rattle.free_list.specs.Cells.{Cut, ListAfter};
 ghost use Rattle.free_list.specs.Taken.{OneAnswer};

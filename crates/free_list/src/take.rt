@@ -3,11 +3,7 @@ ghost use Rattle.free_list.specs.Taken.{Taken};
 use crate::cut::cut;
 use crate::fault::Fault;
 use crate::first_fit::first_fit;
-
-// The fewest and the most words of a heap.
-const FEWEST_WORDS: usize = 2;
-
-const MOST_WORDS: usize = 65536;
+use refusals::limits::{FEWEST_WORDS, MOST_WORDS};
 
 // Takes a cell of `n` words from the first run that is long enough, all its words 0. Answers its address.
 pub fn take_cell(words: &mut [u32], n: u32) -> Result<Option<u32>, Fault>

@@ -1,4 +1,4 @@
-ghost use Rattle.std.specs.Prelude.{◌≡◌, length};
+ghost use Rattle.std.specs.Prelude.{length};
 ghost use Rattle.calls.specs.Calls.{Notes, Copies, Tells, Looks, Sets, Puts, Fetches};
 ghost use Rattle.heap.specs.Memory.{Same, Left};
 ghost use Rattle.heap.specs.Tokens.{Gives, Spends};

@@ -1,5 +1,8 @@
 ghost use Rattle.std.specs.Prelude.{◌≡◌, length, replicate};
 
+// The byte of a word that is marked; a word with any other is not.
+pub const MARKED: u8 = 1;
+
 // The lent mark bytes, all zero again once it is dropped, whatever way out is taken.
 pub struct Marks<'a> {
     pub bytes: &'a mut [u8],

@@ -7,6 +7,7 @@ ghost use Rattle.scan.specs.Children.{width, child_at};
 ghost use Rattle.scan.specs.Answers.{Answers};
 
 use crate::frame::{Child, Frame};
+use crate::guard::MARKED;
 use crate::inspector::{Full, Inspector};
 use crate::scanned::{Scanned, Stop, Unscanned};
 use cells::content::Content;
@@ -35,7 +36,7 @@ fn mark(marks: &mut [u8], address: u32, count: u32)
     ensures { marks.new ≡ mark_words marks.old address count }
 {
     let start = address as usize;
-    marks[start..start + count as usize].fill(1);
+    marks[start..start + count as usize].fill(MARKED);
 }
 
 // Where the frame's next word stands.
@@ -58,7 +59,7 @@ impl<'a, S: TemplateSource> Walk<'a, S> {
         ensures visits { self.new.visits ≡ self.old.visits }
         ensures entered { Entered (S.TemplateSource.meaning self.old.source.now) code address self.old.marks.now self.old.pending.now self.old.depth self.new.marks.now self.new.pending.now self.new.depth }
     {
-        let is_marked = self.marks[address as usize] == 1;
+        let is_marked = self.marks[address as usize] == MARKED;
         if is_marked {
             return;
         }
@@ -110,11 +111,9 @@ impl<'a, S: TemplateSource> Walk<'a, S> {
         let frame = self.pending[top];
         let n = words_of(self.source, frame.code);
         if frame.word > n {
-            let Ok(()) = self.show(frame, n, inspector) else {
-                return Err(Stop::Full {
-                    address: frame.address,
-                });
-            };
+            let address = frame.address;
+            self.show(frame, n, inspector)
+                .map_err(|Full| Stop::Full { address })?;
             self.depth = top;
             self.visits += 1;
             return Ok(());
@@ -146,7 +145,8 @@ impl<'a, S: TemplateSource> Walk<'a, S> {
 }
 
 // Marks what the pointer reaches and shows each cell to the inspector once its children are done. The pending places are scratch:
-// what a scan leaves in them means nothing.
+// what a scan leaves in them means nothing. What is lent comes in parts, each of any length, since memory that does not fit together
+// is answered and not ruled out by a type.
 pub fn scan<S: TemplateSource, I: Inspector>(
     words: &[u32],
     marks: &mut [u8],

@@ -4,13 +4,14 @@ ghost use Rattle.sweeping.specs.Sweeping.{Surveys};
 
 use calls::memory::check_memory;
 use refusals::refusal::Refusal;
+use scan::guard::MARKED;
 
 // How many words from word 1 on are unmarked.
 pub(crate) fn count_unmarked(marks: &[u8]) -> usize
     ensures count { result ≡ unmarked (drop 1 marks.now) }
     ensures few { result ≤ length marks.now }
 {
-    marks.iter().skip(1).filter(|mark| **mark != 1).count()
+    marks.iter().skip(1).filter(|mark| **mark != MARKED).count()
 }
 
 // How many words a sweep of `length` words would free. Nothing changes.

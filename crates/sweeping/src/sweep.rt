@@ -7,6 +7,7 @@ use crate::survey::count_unmarked;
 use calls::memory::check_memory;
 use free_list::halves::Halves;
 use refusals::refusal::Refusal;
+use scan::guard::MARKED;
 
 // Links the stretches, from the last word down, so that each run's link is known when its word is written.
 fn link_stretches(words: &mut [u32], marks: &[u8])
@@ -19,7 +20,7 @@ fn link_stretches(words: &mut [u32], marks: &[u8])
 {
     let mut stretch = Stretch { size: 0, next: 0 };
     for (at, mark) in marks.iter().enumerate().skip(1).rev() {
-        if *mark == 1 {
+        if *mark == MARKED {
             stretch.close(words, at as u32 + 1);
         } else {
             stretch.size += 1;

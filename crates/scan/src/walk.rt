@@ -111,9 +111,11 @@ impl<'a, S: TemplateSource> Walk<'a, S> {
         let frame = self.pending[top];
         let n = words_of(self.source, frame.code);
         if frame.word > n {
-            let address = frame.address;
-            self.show(frame, n, inspector)
-                .map_err(|Full| Stop::Full { address })?;
+            let Ok(()) = self.show(frame, n, inspector) else {
+                return Err(Stop::Full {
+                    address: frame.address,
+                });
+            };
             self.depth = top;
             self.visits += 1;
             return Ok(());

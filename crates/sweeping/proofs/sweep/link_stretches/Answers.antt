@@ -17,20 +17,20 @@ loop-at-init c =
       state_start _ _ _ (ap length all ∙ c.requires.marks) c.requires.marks c.requires.some,
     )
 
-pub loop-at-preserved-then-mark-eq1 : goal.loop-at-preserved-then-mark-eq1
-loop-at-preserved-then-mark-eq1 c =
+pub loop-at-preserved-then-mark-eq-MARKED : goal.loop-at-preserved-then-mark-eq-MARKED
+loop-at-preserved-then-mark-eq-MARKED c =
     let steps = c.in-Some.ensures.steps in
     let i = c.loop-at.invariant in
     let d = down_one c.args.marks.now _ _ c.in-Some.mark.now steps.1.1.1.0 i.2 in
     let at = steps.1.1.1.1 in
-    (steps.0 ∙ i.0, steps.1.1.0 ∙ i.1, d.1, state_marked _ _ c.loop-at.words _ _ _ _ _ _ _ _ (omega (arith, d.0, steps.1.0, i.0)) d.0 (d.2 ∙ c.if-mark-eq1.true) (omega arith) (omega arith) (omega (arith, at, i.1)) c.close.ensures.words c.close.ensures.empty i.3)
+    (steps.0 ∙ i.0, steps.1.1.0 ∙ i.1, d.1, state_marked _ _ c.loop-at.words _ _ _ _ _ _ _ _ (omega (arith, d.0, steps.1.0, i.0)) d.0 (d.2 ∙ c.if-mark-eq-MARKED.true) (omega arith) (omega arith) (omega (arith, at, i.1)) c.close.ensures.words c.close.ensures.empty i.3)
 
 pub loop-at-preserved : goal.loop-at-preserved
 loop-at-preserved c =
     let steps = c.in-Some.ensures.steps in
     let i = c.loop-at.invariant in
     let d = down_one c.args.marks.now _ _ c.in-Some.mark.now steps.1.1.1.0 i.2 in
-    (steps.0 ∙ i.0, steps.1.1.0 ∙ i.1, d.1, state_unmarked _ _ _ _ _ _ _ (omega (arith, d.0, steps.1.0, i.0)) d.0 (λ marked. c.if-mark-eq1.false (sym d.2 ∙ marked)) i.3)
+    (steps.0 ∙ i.0, steps.1.1.0 ∙ i.1, d.1, state_unmarked _ _ _ _ _ _ _ (omega (arith, d.0, steps.1.0, i.0)) d.0 (λ marked. c.if-mark-eq-MARKED.false (sym d.2 ∙ marked)) i.3)
 
 pub returns : goal.returns
 returns c =

@@ -9,7 +9,7 @@ use crate::part::Part;
 pub struct Argument<'a> {
     pub part: Part<'a>,
     pub value: u32,
-    ghost writes: { Writes part.text.now value },
+    pub ghost writes: { Writes part.text.now value },
 }
 
 impl<'a> Argument<'a> {

@@ -21,7 +21,7 @@ const LARGEST_HEAP: u32 = 1024;
 // What a line asks for, by its parts.
 #[derive(Clone, Copy)]
 pub enum Command<'a> {
-    // The numbers of a table, each after a space: their text alone, so that a command is `Copy`.
+    // The numbers of a table, each after a space, as the part of the line that writes them.
     Types {
         numbers: Part<'a>,
     },
@@ -74,7 +74,7 @@ fn parse_types<'a>(follow: Part<'a>) -> Option<Command<'a>>
     Some(Command::Types { numbers: follow })
 }
 
-// One function for each count of numbers: the last arm of one match on names and numbers has some fifty cases.
+// One function for each count of numbers: of one match on the name and the numbers, the proof of the last arm did not close.
 fn with_one<'a>(name: &[u8], number: Argument<'a>) -> Option<Command<'a>>
     ensures { Picks name.now (number.entry ∷ []) result }
 {

@@ -6,3 +6,4 @@ pub mod Right
 pub mod Promise
 pub mod Replays
 pub mod Carries
+pub mod Lent

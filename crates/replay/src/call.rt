@@ -2,7 +2,7 @@ use calls::holds::Holds;
 use cells::content::Content;
 
 // A call that reads or writes holds and cells, by hold number.
-#[derive(Clone, Copy)]
+#[derive(Clone, Copy, PartialEq, Eq, Debug)]
 pub enum CellCall {
     Take { hold: u32 },
     Release { hold: u32 },

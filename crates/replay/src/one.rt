@@ -1,6 +1,7 @@
 ghost use Rattle.std.specs.Prelude.{◌≡◌, ℕ, length};
 ghost use Rattle.layouts.specs.Types.{Types};
 ghost use Rattle.replay.specs.declared.call.Phase.TheVariants.{Open, Marked};
+ghost use Rattle.replay.specs.Lent.{pending_of};
 ghost use Rattle.replay.specs.Steps.{CellStep};
 ghost use Rattle.replay.specs.Carries.{Carries, SameMemory, state_of};
 
@@ -49,6 +50,17 @@ fn cell_call<S: TemplateSource>(
     }
 }
 
+// How many pending places the call is to be lent; the calls that do not scan need none.
+fn pending<I>(call: &Call<I>) -> usize
+    ensures { result ≡ pending_of call.now }
+{
+    match call {
+        Call::Make { pending, .. } | Call::Trace { pending, .. } | Call::Mark { pending } =>
+            *pending,
+        Call::Cell(_) | Call::Survey | Call::Unmark | Call::Sweep => 0,
+    }
+}
+
 // A heap over lent words and marks, with holds of its own, in one of its two states.
 #[derive(Drop)]
 pub(crate) struct Heap<'a> {
@@ -74,29 +86,21 @@ impl Heap<'_> {
         let words = &mut *self.words;
         let marks = &mut *self.marks;
         let holds = &mut self.holds;
+        let count = pending(call).min(places.len());
+        let lent = &mut places[..count];
         match call {
             Call::Cell(cell) => Some(cell_call(words, holds, source, *cell)),
-            Call::Make {
-                hold,
-                code,
-                pending,
-            } => {
-                let count = (*pending).min(places.len());
-                let lent = &mut places[..count];
+            Call::Make { hold, code, .. } => {
                 Some(make(words, marks, lent, holds, source, *hold, *code).map(Answer::Number))
             }
             Call::Trace {
                 hold,
-                pending,
                 inspector,
+                ..
             } => {
-                let count = (*pending).min(places.len());
-                let lent = &mut places[..count];
                 Some(trace(words, marks, lent, holds, source, inspector, *hold).map(Answer::Number))
             }
-            Call::Mark { pending } => {
-                let count = (*pending).min(places.len());
-                let lent = &mut places[..count];
+            Call::Mark { .. } => {
                 let marked = mark_holds(words, marks, lent, holds, source);
                 if marked.is_ok() {
                     self.phase = Phase::Marked;

@@ -11,6 +11,8 @@ use cells::words::{read_content, write_content};
 use refusals::refusal::Refusal;
 use sources::source::TemplateSource;
 
+// Words, holds and source are lent one by one: some calls write the words, some the holds, and some want no source.
+
 // The hold becomes held, with nothing.
 pub fn take(holds: &mut Holds, hold: u32) -> Result<(), Refusal>
     ensures { Takes holds.old.records hold holds.new.records result }

@@ -12,7 +12,8 @@ pub fn words_of<S: TemplateSource>(source: &S, code: u32) -> u32
     source.size(code).unwrap_or(0)
 }
 
-// Whether a cell of the type at the address lies in a heap of so many words.
+// Whether a cell of the type at the address lies in a heap of so many words. Code and address are two parameters, as they are in the
+// heap: two words, or one of them known from the layout.
 pub fn does_fit<S: TemplateSource>(source: &S, length: usize, code: u32, address: u32) -> bool
     ensures { result ≡ fits (S.TemplateSource.meaning source.now) length code address }
 {

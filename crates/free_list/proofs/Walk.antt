@@ -36,9 +36,6 @@ reach_ends w p e [] q f ending r ends =
     subst P (sym r.0) (subst Q (sym r.1) ends)
 reach_ends w p e (span b t ∷ front) q f ending r ends = (r.0, reach_ends w b (b + t) front q f ending r.1 ends)
 
-pub walked_none : (w : List ℕ) (n : ℕ) → Walked w n 0 1
-walked_none w n = record { front = []; reads = (refl, refl); small = tt }
-
 pub walked_more : {w : List ℕ} {n p e a s : ℕ} → Walked w n p e → Next w p e a s → s < n → Walked w n a (a + s)
 walked_more {w} {n} {p} {e} {a} {s} v next less = record {
   front = v.front ++ span a s ∷ [];

@@ -8,7 +8,7 @@ pub struct Memory<'m> {
     pub marks: &'m mut [u8],
 }
 
-// A heap whose cells are made, read and written.
+// A heap whose cells are made, read and written. `Memory` may have any length, and this may not, so the two are not one type.
 #[derive(Drop)]
 pub struct Open<'m> {
     pub(crate) words: &'m mut [u32],

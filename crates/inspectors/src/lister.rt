@@ -91,6 +91,7 @@ impl<'b> Lister<'b> {
         }
     }
 
+    // Piece by piece, and no `write!`: of that a proof knows the text only where it goes to a `String`.
     fn put_line(&mut self, code: u32, address: u32, words: &[u32])
         requires { Room self.old (line code address words.now) }
         ensures { self.new ≡ appended self.old (line code address words.now) }

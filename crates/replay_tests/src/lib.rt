@@ -67,14 +67,14 @@ mod tests {
         )?;
         assert_eq!(rt; ran.count, 12);
         assert_eq!(rt; ran.phase, Phase::Open);
-        assert!(rt; matches!(answers[1], Ok(Answer::Number(9))));
-        assert!(rt; matches!(answers[3], Ok(Answer::Number(7))));
-        assert!(rt; matches!(answers[6], Ok(Answer::Number(2))));
-        assert!(rt; matches!(answers[7], Ok(Answer::Number(6))));
-        assert!(rt; matches!(answers[8], Ok(Answer::Number(6))));
-        assert!(rt; matches!(answers[9], Ok(Answer::Number(3))));
-        assert!(rt; matches!(answers[10], Ok(Answer::Number(9))));
-        assert!(rt; matches!(answers[11], Err(Refusal::HoldState { hold: 1 })));
+        assert_eq!(rt; answers[1], Ok(Answer::Number(9)));
+        assert_eq!(rt; answers[3], Ok(Answer::Number(7)));
+        assert_eq!(rt; answers[6], Ok(Answer::Number(2)));
+        assert_eq!(rt; answers[7], Ok(Answer::Number(6)));
+        assert_eq!(rt; answers[8], Ok(Answer::Number(6)));
+        assert_eq!(rt; answers[9], Ok(Answer::Number(3)));
+        assert_eq!(rt; answers[10], Ok(Answer::Number(9)));
+        assert_eq!(rt; answers[11], Err(Refusal::HoldState { hold: 1 }));
         Ok(())
     }
 }

@@ -2,5 +2,4 @@ pub mod Texts
 pub mod Numbers
 pub mod Tables
 pub mod Orders
-pub mod Heaps
 pub mod Mapped

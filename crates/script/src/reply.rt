@@ -4,7 +4,8 @@ ghost use Rattle.script.specs.Replies.{shown};
 use cells::content::Content;
 use std::fmt;
 
-// What a line that is obeyed comes to.
+// What a line that is obeyed comes to. It has the cases of an answer in `replay`, and is a type of its own, since only a type of this
+// crate can be printed here.
 #[derive(Clone, Copy)]
 pub(crate) enum Reply {
     Done,

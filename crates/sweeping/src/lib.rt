@@ -16,8 +16,8 @@ mod tests {
     fn cells_are_taken_from_swept_words(rt: HostRuntime) {
         let mut words = [7 * 65536 + 3, 11, 12, 13, 14, 15];
         let mut marks = [0, 1, 0, 2, 1, 0];
-        assert!(rt; matches!(survey(words.len(), &marks), Ok(3)));
-        assert!(rt; matches!(sweep(&mut words, &mut marks), Ok(3)));
+        assert_eq!(rt; survey(words.len(), &marks), Ok(3));
+        assert_eq!(rt; sweep(&mut words, &mut marks), Ok(3));
         assert_eq!(rt; words, [7 * 65536 + 2, 11, 2 * 65536 + 5, 13, 14, 65536]);
         assert_eq!(rt; marks, [0; 6]);
         assert_eq!(rt; take_cell(&mut words, 1), Ok(Some(3)));

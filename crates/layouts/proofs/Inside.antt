@@ -1,7 +1,7 @@
 -- A word whose entry is not Z is one of its type's words.
 use Rattle.std.proofs.Common.{◌≡◌, ℕ, ◌≤◌, ◌⊎◌, Some, None, Option, refl, inl, inr, arith}
 use Rattle.std.proofs.lemmas.Bool.{cases_lt}
-use Rattle.layouts.specs.declared.entry.Entry.TheVariants.{P, Code}
+use Rattle.layouts.specs.declared.entry.Entry.TheVariants.{P}
 use Rattle.layouts.specs.Types.{Types, Lawful, Within}
 
 within_of : (o : Option ℕ) (i : ℕ) → ((n : ℕ) × (o ≡ Some n) × (1 ≤ i) × (i ≤ n)) ⊎ (((n : ℕ) × (o ≡ Some n) × (1 ≤ i) × (i ≤ n)) → ⊥)
@@ -19,12 +19,6 @@ cases_within t c i = within_of (t.size c) i
 
 pub pointer_within : (t : Types) → Lawful t → (c i : ℕ) → t.entry c i ≡ P → Within t c i
 pointer_within t laws c i e = elim (cases_within t c i) [
-  | inl w ↦ w
-  | inr f ↦ (let o = laws.outside c i f in let z : ◌≡◌ {A = ℕ} 0 1 = cc in absurd (omega arith))
-]
-
-pub code_within : (t : Types) → Lawful t → (c i k : ℕ) → t.entry c i ≡ Code k → Within t c i
-code_within t laws c i k e = elim (cases_within t c i) [
   | inl w ↦ w
   | inr f ↦ (let o = laws.outside c i f in let z : ◌≡◌ {A = ℕ} 0 1 = cc in absurd (omega arith))
 ]

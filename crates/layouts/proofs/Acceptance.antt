@@ -1,6 +1,5 @@
 -- A table is accepted exactly when it follows the template rule, and then means what its templates mean.
-use Rattle.std.proofs.Common.{ℕ, ◌≤◌, List, length}
-use Rattle.layouts.specs.Table.{Accepted}
+use Rattle.std.proofs.Common.{ℕ, List}
 use Rattle.layouts.specs.Statements.{AcceptedExactly, TableMeans}
 use Rattle.layouts.proofs.Sound.{sound, accepted}
 use Rattle.layouts.proofs.Accepted.{rule_sound, same_meaning}
@@ -11,6 +10,3 @@ accepted_exactly ws = (λ e. sound_rule ws (sound ws e), λ f. accepted ws (rule
 
 pub table_means : TableMeans
 table_means ws e = let f = sound_rule ws (sound ws e) in (f, same_meaning ws f)
-
-pub accepted_short : (ws : List ℕ) → Accepted ws → length ws ≤ 32768
-accepted_short ws e = (sound ws e).short

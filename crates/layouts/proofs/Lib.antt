@@ -1,3 +1,4 @@
+pub mod Inside
 pub mod RuleLaws
 pub mod OverLaws
 pub mod MaskLaws

@@ -22,9 +22,6 @@ pub stands_short : (ws : List ℕ) (k : ℕ) (ts : List Template) → Stands ws 
 stands_short ws k [] s = omega arith
 stands_short ws k (es ∷ ts) s = let r = stands_short ws (k + 1 + length es) ts s.1 in omega arith
 
-part_length : (es : Template) (row : List ℕ) → length (length es ∷ map word_of es ++ row) ≡ 1 + length es + length row
-part_length es row = let a = length-append (map word_of es) row in let b = length-map es word_of in omega arith
-
 written_at : (pre : List ℕ) (es : Template) (row : List ℕ) → Written (pre ++ (length es ∷ map word_of es ++ row)) (length pre) es
 written_at pre es row = record {
   size = (let z : length pre + 0 ≡ length pre = omega arith in

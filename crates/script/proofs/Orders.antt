@@ -1,9 +1,9 @@
 -- From what a line asks for to what the session answers.
 use Rattle.std.proofs.Common.{◌≡◌, ℕ, ◌⊎◌, List, IfOk, Ok, Err, Result, sym, refl, subst, inl, inr, MatchResult}
+use Rattle.sources.specs.declared.error.Failure.{Failure}
+use Rattle.sources.specs.declared.error.Failure.TheVariants.{Refused, NoMemory}
 use Rattle.lines.specs.Requests.{Request, Line}
 use Rattle.lines.proofs.Readings.{line_once}
-use Rattle.script.specs.declared.failure.Failure.{Failure}
-use Rattle.script.specs.declared.failure.Failure.TheVariants.{Refused, NoMemory}
 use Rattle.script.specs.declared.reply.Reply.{Reply}
 use Rattle.script.specs.Coming.{Comes, ComesTo}
 use Rattle.script.specs.Obeying.{State, InOrder, Obeys, Brings}

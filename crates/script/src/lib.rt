@@ -1,7 +1,6 @@
 // A session of the script: it obeys a line, and answers it.
 #![tactic(auto)]
 
-mod failure;
 mod reply;
 pub mod session;
 mod store;

@@ -10,14 +10,13 @@ ghost use Rattle.script.specs.Coming.{Comes, ComesTo};
 ghost use Rattle.script.specs.Obeying.{empty, calling, phase_of, Brings};
 ghost use Rattle.script.specs.Session.{state, Answers};
 
-use crate::failure::Failure;
 use crate::reply::Reply;
 use crate::store::Store;
 use lines::command::{Command, MOST_WORDS, read};
 use lines::number::numbers;
 use lines::part::Part;
 use refusals::refusal::Refusal;
-use sources::error::TableError;
+use sources::error::Failure;
 use sources::over::Over;
 use sources::table::Table;
 use std::alloc::{AllocError, Global};
@@ -29,7 +28,7 @@ pub struct Session {
 }
 
 // The table of a command's numbers, or why there is none.
-fn table_of(heap: Global, follow: Part<'_>) -> Result<Table, TableError>
+fn table_of(heap: Global, follow: Part<'_>) -> Result<Table, Failure>
     ensures { (ns : List ℕ) → Lists follow.entry.text.now ns → length ns ≤ 64 → results.MatchResult result (λ t. words_of t ≡ ns) (λ e. NoTable ns e) }
 {
     let words = numbers::<MOST_WORDS>(follow.text).unwrap_or_default();
@@ -48,7 +47,7 @@ impl Session {
         ensures { (ns : List ℕ) → Lists follow.entry.text.now ns → length ns ≤ 64 → ComesTo (λ outcome. Brings (state self.old) number (requests.types ns) (state self.new) outcome) (self.new ≡ self.old) result }
     {
         if self.store.is_some() {
-            return Err(Failure::Refused(Refusal::NotALine { line: number }));
+            return Err(Refusal::NotALine { line: number }.into());
         }
         let table = table_of(heap, follow)?;
         self.store = Some(Store {
@@ -64,7 +63,7 @@ impl Session {
     {
         match &mut self.store {
             Some(store) if store.heap.is_none() => store.open(heap, length),
-            _ => Err(Failure::Refused(Refusal::NotALine { line: number })),
+            _ => Err(Refusal::NotALine { line: number }.into()),
         }
     }
 

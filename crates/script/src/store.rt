@@ -7,13 +7,13 @@ ghost use Rattle.script.specs.Obeying.{calling, phase_of, Obeys, Brings};
 ghost use Rattle.script.specs.declared.reply.Reply.TheVariants.{Done};
 ghost use Rattle.script.specs.Session.{opened, with_heap};
 
-use crate::failure::Failure;
 use crate::reply::Reply;
 use calls::by_number::{copy, fetch, look, note, put, release, set, take, tell};
 use calls::holds::Holds;
 use heap::open::format_words;
 use lines::command::Command;
 use refusals::refusal::Refusal;
+use sources::error::Failure;
 use sources::over::Over;
 use sources::table::Table;
 use std::alloc::Global;

@@ -17,7 +17,7 @@ fn is_bad_start(words: &[u32]) -> bool
 }
 
 // Asks the rule at each word in order, up to the first that it refuses.
-fn ask_each<'a, F: Fn(Spot<'a>) -> Option<Refusal>>(
+fn ask_each<'a, F: Fn(Spot<'a>) -> Result<(), Refusal>>(
     table: &'a Flagged<'a>,
     rule: F,
 ) -> Result<(), Refusal>
@@ -26,9 +26,7 @@ fn ask_each<'a, F: Fn(Spot<'a>) -> Option<Refusal>>(
 {
     let mut left = 0;
     for (k, word) in table.words.iter().enumerate() {
-        if let Some(refusal) = rule(Spot { table, k, left }) {
-            return Err(refusal);
-        }
+        rule(Spot { table, k, left })?;
         left = next_due(left, *word);
     }
     Ok(())

@@ -1,4 +1,5 @@
 ghost use Rattle.std.specs.Prelude.{◌≡◌, ◌<◌, length};
+ghost use Rattle.std.specs.Result.{result_err};
 ghost use Rattle.layouts.specs.Table.{due, template_refusal, entry_said, entry_refusal};
 
 use crate::starts::Flagged;
@@ -18,21 +19,21 @@ pub(crate) struct Spot<'a> {
 
 impl<'a> Spot<'a> {
     // The refusal of the template that begins here, if one begins here and is refused.
-    pub(crate) fn template_refusal(self) -> Option<Refusal>
-        ensures { result ≡ template_refusal self.entry.table.now.words.now self.entry.k }
+    pub(crate) fn template_refusal(self) -> Result<(), Refusal>
+        ensures { result_err result ≡ template_refusal self.entry.table.now.words.now self.entry.k }
     {
         let words = self.table.words;
         let index = self.k as u32;
         if self.left > 0 {
-            return None;
+            return Ok(());
         }
         if words[self.k] > MOST_WORDS {
-            return Some(Refusal::TemplateSize { index });
+            return Err(Refusal::TemplateSize { index });
         }
         if self.k + 1 + words[self.k] as usize > words.len() {
-            return Some(Refusal::TemplateEnd { index });
+            return Err(Refusal::TemplateEnd { index });
         }
-        None
+        Ok(())
     }
 
     // What the word says as an entry: Z, P, a code, or a fault.
@@ -53,12 +54,13 @@ impl<'a> Spot<'a> {
     }
 
     // The refusal of the entry here, if the word is an entry and is refused.
-    pub(crate) fn entry_refusal(self) -> Option<Refusal>
-        ensures { result ≡ entry_refusal self.entry.table.now.words.now self.entry.k }
+    pub(crate) fn entry_refusal(self) -> Result<(), Refusal>
+        ensures { result_err result ≡ entry_refusal self.entry.table.now.words.now self.entry.k }
     {
         if self.left == 0 {
-            return None;
+            return Ok(());
         }
-        self.entry().err()
+        self.entry()?;
+        Ok(())
     }
 }

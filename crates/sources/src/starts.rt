@@ -1,4 +1,4 @@
-ghost use Rattle.std.specs.Prelude.{◌≡◌, ℕ, ◌-◌, ◌<◌, ◌≤◌, ◌&&◌, length, if◌then◌else◌, nat_eq, nat_le, slice_index};
+ghost use Rattle.std.specs.Prelude.{◌≡◌, ◌-◌, ◌≤◌, ◌&&◌, length, if◌then◌else◌, nat_eq, nat_le, slice_index};
 ghost use Rattle.layouts.specs.Table.{begins};
 ghost use Rattle.sources.specs.Flags.{Flags};
 
@@ -12,6 +12,8 @@ pub(crate) fn next_due(left: u32, word: u32) -> u32
 }
 
 // Words that are few enough for a table, with a flag for each that says whether a template begins there.
+// The check takes no memory, so the flags lie in an array of the largest size; they are written by index, since of what is written
+// through a `zip` with an `iter_mut` a proof knows no element.
 #[derive(Drop)]
 pub(crate) struct Flagged<'a> {
     pub(crate) words: &'a [u32],

@@ -7,7 +7,7 @@ ghost use Rattle.sources.specs.Slots.{slot_of, words_in, SlotsFlagged};
 ghost use Rattle.sources.specs.Errors.{NoTable};
 
 use crate::check::checked;
-use crate::error::TableError;
+use crate::error::Failure;
 use crate::source::TemplateSource;
 use crate::starts::Flagged;
 use crate::words::{P_WORD, Z_WORD};
@@ -46,7 +46,7 @@ impl TemplateSource for Table {
     }
 }
 
-// The entry that a word of a table stands for.
+// The entry that a word of a table stands for. It is no `From`, which would have to stand in `layouts`, where no table is known.
 fn entry_from(word: u32) -> Entry
     ensures { result ≡ entry_of word }
 {
@@ -92,7 +92,7 @@ impl Table {
     ghost use Rattle.sources.specs.Words.{words_of};
 
     // The table that the words are, or why there is none.
-    pub fn new(heap: Global, words: &[u32]) -> Result<Table, TableError>
+    pub fn new(heap: Global, words: &[u32]) -> Result<Table, Failure>
         ensures { MatchResult result (λ t. (words_of t ≡ words.now) × MeansTemplates words.now (table (words_of t))) (λ e. NoTable words.now e) }
     {
         let flagged = checked(words)?;

@@ -19,15 +19,26 @@ pub fn class<S: TemplateSource>(source: &S, code: u32, word: u32) -> Class
     }
 }
 
-// How many pointers and addresses a cell of the type holds, or that there is no such type.
+// How many pointers and addresses a cell of the type holds, or that there is no such type. The laws let a pointer be stepped over
+// by two.
 pub fn count_references<S: TemplateSource>(source: &S, code: u32) -> Option<u32>
     ensures { result ≡ option_map (λ n. references (S.TemplateSource.meaning source.now) code n) ((S.TemplateSource.meaning source.now).size code) }
 {
     let n = source.size(code)?;
     let mut count = 0;
-    for word in 1..n + 1 {
-        if source.entry(code, word) != Entry::Z {
-            count += 1;
+    let mut word = 1;
+    // The step is one or two words, as the entry says, which no range has.
+    while word <= n {
+        match source.entry(code, word) {
+            Entry::P => {
+                count += 1;
+                word += 2;
+            }
+            Entry::Code(_) => {
+                count += 1;
+                word += 1;
+            }
+            Entry::Z => word += 1,
         }
     }
     Some(count)

@@ -1,4 +1,4 @@
-ghost use Rattle.std.specs.Prelude.{◌≡◌, ◌<◌, [], ◌∷◌, ◌++◌, length, MatchResult};
+ghost use Rattle.std.specs.Prelude.{◌≡◌, ◌<◌, ◌≤◌, [], ◌∷◌, ◌++◌, length, MatchResult};
 ghost use Rattle.refusals.specs.declared.refusal.Refusal.TheVariants.{MaskFull};
 ghost use Rattle.layouts.specs.Mask.{masked};
 ghost use Rattle.layouts.proofs.MaskLaws.{masked_lawful};
@@ -15,6 +15,7 @@ use refusals::refusal::Refusal;
 pub struct Mask<S> {
     source: S,
     places: ArrayVec<Place, MASK_PLACES>,
+    ghost few: { length places.items ≤ 32 },
 }
 
 impl<S: TemplateSource> TemplateSource for Mask<S> {

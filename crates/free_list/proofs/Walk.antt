@@ -1,5 +1,6 @@
 -- The reading of a free list, one run further.
 use Rattle.std.proofs.Common.{◌≡◌, ℕ, ◌+◌, ◌<◌, List, [], ◌∷◌, ◌++◌, Some, None, Ok, Err, Result, sym, refl, ◌∙◌, subst}
+use Rattle.free_list.specs.declared.runs.Break.{Break}
 use Rattle.free_list.specs.declared.runs.Found.{Found}
 use Rattle.free_list.specs.declared.runs.Runs.{Runs}
 use Rattle.free_list.specs.Walks.{GivesRun}
@@ -54,18 +55,18 @@ walked_ends {w} {n} {p} {e} ending v ends = record {
 abbrev pub Passed : List ℕ → ℕ → Runs → Type 0
 Passed w n s = (s.words.now ≡ w) × Walked w n s.link_at s.end
 
-pub passed_run : {w : List ℕ} {n : ℕ} (s t : Runs) {r : Result Found ℕ} {f : Found} → r ≡ Ok f → GivesRun s (Some r) t → f.size < n
+pub passed_run : {w : List ℕ} {n : ℕ} (s t : Runs) {r : Result Found Break} {f : Found} → r ≡ Ok f → GivesRun s (Some r) t → f.size < n
     → Passed w n s → Passed w n t
 passed_run {w} {n} s t {r} {f} is gave less passed =
-    let g : GivesRun s (Some (Ok f)) t = subst (λ (x : Result Found ℕ). GivesRun s (Some x) t) is gave in
+    let g : GivesRun s (Some (Ok f)) t = subst (λ (x : Result Found Break). GivesRun s (Some x) t) is gave in
     let next : Next w s.link_at s.end f.run f.size = subst (λ (x : List ℕ). Next x s.link_at s.end f.run f.size) passed.0 g.1 in
     (g.2 ∙ passed.0, rw (g.3, g.4) (walked_more passed.1 next less))
 
-pub passed_broken : {w : List ℕ} {n : ℕ} (s t : Runs) {r : Result Found ℕ} {q : ℕ} → r ≡ Err q → GivesRun s (Some r) t
-    → Passed w n s → NoFit w n (broken q)
-passed_broken {w} {n} s t {r} {q} is gave passed =
-    let g : GivesRun s (Some (Err q)) t = subst (λ (x : Result Found ℕ). GivesRun s (Some x) t) is gave in
-    walked_ends (broken q) passed.1 (subst (λ (x : List ℕ). Ends x s.link_at s.end (broken q)) passed.0 (g.0, g.1))
+pub passed_broken : {w : List ℕ} {n : ℕ} (s t : Runs) {r : Result Found Break} {b : Break} → r ≡ Err b → GivesRun s (Some r) t
+    → Passed w n s → NoFit w n (broken b.at)
+passed_broken {w} {n} s t {r} {b} is gave passed =
+    let g : GivesRun s (Some (Err b)) t = subst (λ (x : Result Found Break). GivesRun s (Some x) t) is gave in
+    walked_ends (broken b.at) passed.1 (subst (λ (x : List ℕ). Ends x s.link_at s.end (broken b.at)) passed.0 (g.0, g.1))
 
 pub passed_all : {w : List ℕ} {n : ℕ} (s t : Runs) → GivesRun s None t → Passed w n s → NoFit w n proper
 passed_all {w} {n} s t gave passed =

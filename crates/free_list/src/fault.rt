@@ -1,6 +1,8 @@
 ghost use Rattle.std.specs.Prelude.{◌≡◌};
+ghost use Rattle.free_list.specs.declared.fault.Fault.TheVariants.{Broken};
 ghost use Rattle.free_list.specs.Faults.{refusal_of};
 
+use crate::runs::Break;
 use refusals::refusal::Refusal;
 
 // Why no cell can be taken: the words are no heap, a cell has words, or a link leads to no run.
@@ -9,6 +11,14 @@ pub enum Fault {
     Length,
     Size,
     Broken(u32),
+}
+
+impl From<Break> for Fault {
+    ghost from_gives = { λ link fault. fault ≡ Broken link.at };
+
+    fn from(link: Break) -> Fault {
+        Fault::Broken(link.at)
+    }
 }
 
 impl From<Fault> for Refusal {

@@ -11,6 +11,12 @@ pub(crate) struct Found {
     pub(crate) size: u32,
 }
 
+// The word that holds a broken link.
+#[derive(Clone, Copy, PartialEq, Eq, Debug)]
+pub(crate) struct Break {
+    pub(crate) at: u32,
+}
+
 // How many words the run at `run` has, if a link behind a run that ends at `end` may lead there.
 fn size_at(words: &[u32], run: u32, end: u32) -> Option<u32>
     requires { 1 ≤ run }
@@ -54,13 +60,13 @@ impl<'a> Runs<'a> {
 impl<'a> Iterator for Runs<'a> {
     ghost use Rattle.free_list.specs.Walks.{words_ahead, GivesRun};
 
-    type Item = Result<Found, u32>;
+    type Item = Result<Found, Break>;
 
     ghost next_gives = { GivesRun };
 
     ghost remaining = { words_ahead };
 
-    fn next(&mut self) -> Option<Result<Found, u32>> {
+    fn next(&mut self) -> Option<Result<Found, Break>> {
         let link_at = self.link_at;
         let run = Halves::from(*self.words.get(link_at as usize)?).link;
         if run == 0 {
@@ -68,7 +74,7 @@ impl<'a> Iterator for Runs<'a> {
         }
         let Some(size) = size_at(self.words, run, self.end) else {
             self.words = &[];
-            return Some(Err(link_at));
+            return Some(Err(Break { at: link_at }));
         };
         self.link_at = run;
         self.end = run + size;

@@ -15,7 +15,7 @@ pub fn take_cell(words: &mut [u32], n: u32) -> Result<Option<u32>, Fault>
     if n == 0 {
         return Err(Fault::Size);
     }
-    let Some(found) = first_fit(words, n).map_err(Fault::Broken)? else {
+    let Some(found) = first_fit(words, n)? else {
         return Ok(None);
     };
     Ok(Some(cut(words, found, n)))

@@ -13,11 +13,11 @@ by_zeros zero v h = absurd (omega arith)
 by_zeros (suc zero) v h = absurd (omega arith)
 by_zeros (suc (suc k)) v h = ap (λ n. 1 ∷ v ∷ replicate n 0) (sym (same_rest k))
 
-pub written_new : (L : ℕ) (zeros : List ℕ) → 2 ≤ L → zeros ≡ replicate L 0 → set (set zeros 0 1) 1 ((length (set zeros 0 1) - 1) * 65536) ≡ new_words L
-written_new L zeros h e =
-    let n : length (set zeros 0 1) ≡ L = length-set zeros 0 1 ∙ ap length e ∙ length-replicate L 0 in
-    ap (λ (m : ℕ). set (set zeros 0 1) 1 ((m - 1) * 65536)) n
-    ∙ ap (λ (x : List ℕ). set (set x 0 1) 1 ((L - 1) * 65536)) e
+pub written_new : (L : ℕ) (zeros : List ℕ) (first run : ℕ) → 2 ≤ L → zeros ≡ replicate L 0 → first ≡ 1 → run ≡ (L - 1) * 65536 → set (set zeros 0 first) 1 run ≡ new_words L
+written_new L zeros first run h zeroed one whole =
+    ap (λ (x : List ℕ). set (set x 0 first) 1 run) zeroed
+    ∙ ap (λ (n : ℕ). set (set (replicate L 0) 0 n) 1 run) one
+    ∙ ap (λ (n : ℕ). set (set (replicate L 0) 0 1) 1 n) whole
     ∙ by_zeros L ((L - 1) * 65536) h
 
 pub served : (L M : ℕ) → row_1 L M ≡ None → (2 ≤ L) × (L ≤ 65536)

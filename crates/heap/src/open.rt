@@ -5,10 +5,8 @@ ghost use Rattle.heap.specs.Memory.{new_words, Left, Opens};
 
 use crate::memory::{Memory, Open};
 pub use calls::memory::{FEWEST_WORDS, MOST_WORDS, check_memory};
+use free_list::halves::Halves;
 use refusals::refusal::Refusal;
-
-// One unit of SIZE in the first word of a free run.
-const SIZE_UNIT: u32 = 65536;
 
 // Makes the words those of a new heap.
 fn write_new(words: &mut [u32])
@@ -17,8 +15,9 @@ fn write_new(words: &mut [u32])
     ensures { words.new ≡ new_words (length words.old) }
 {
     words.fill(0);
-    words[0] = 1;
-    words[1] = (words.len() as u32 - 1) * SIZE_UNIT;
+    let size = words.len() as u32 - 1;
+    words[0] = Halves { size: 0, link: 1 }.into();
+    words[1] = Halves { size, link: 0 }.into();
 }
 
 // Makes the words those of a new heap, over as many marks.

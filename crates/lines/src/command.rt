@@ -7,7 +7,7 @@ ghost use Rattle.lines.specs.Requests.{NoLine};
 
 use crate::argument::Argument;
 use crate::arguments::{Arguments, gather};
-use crate::number::numbers;
+use crate::number::numbers_in;
 use crate::part::{Part, cut};
 use crate::words::Words;
 use refusals::refusal::Refusal;
@@ -70,7 +70,7 @@ pub enum Command<'a> {
 fn parse_types<'a>(follow: Part<'a>) -> Option<Command<'a>>
     ensures { ParsesTypes follow.entry result }
 {
-    numbers::<MOST_WORDS>(follow.text)?;
+    numbers_in::<MOST_WORDS>(follow.text)?;
     Some(Command::Types { numbers: follow })
 }
 

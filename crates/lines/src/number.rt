@@ -1,5 +1,5 @@
 ghost use Rattle.std.specs.Prelude.{ℕ, ◌↔◌, MatchOption, IsTrue};
-ghost use Rattle.lines.specs.Numbers.{Plain, Writes, Collects};
+ghost use Rattle.lines.specs.Numbers.{Plain, Writes, Collects, Gives};
 
 use crate::words::Words;
 use arrayvec::ArrayVec;
@@ -21,9 +21,25 @@ pub fn number(word: &[u8]) -> Option<u32>
     std::str::from_utf8(word).ok()?.parse().ok()
 }
 
+// Writes the numbers of a text, each after a space, into the buffer, and answers how many they are. The room of a lent buffer is known
+// only when the program runs, so it is no `ArrayVec`.
+pub fn numbers(text: &[u8], buffer: &mut [u32]) -> Option<usize>
+    ensures { Collects text.now buffer.new result }
+{
+    let mut count = 0;
+    for word in Words::of(text)? {
+        if count == buffer.len() {
+            return None;
+        }
+        buffer[count] = number(word.text)?;
+        count += 1;
+    }
+    Some(count)
+}
+
 // The numbers of a text, each after a space, if there is room for them.
-pub fn numbers<const N: usize>(text: &[u8]) -> Option<ArrayVec<u32, N>>
-    ensures { Collects text.now N result }
+pub fn numbers_in<const N: usize>(text: &[u8]) -> Option<ArrayVec<u32, N>>
+    ensures { Gives text.now N result }
 {
     let mut numbers = ArrayVec::new();
     for word in Words::of(text)? {

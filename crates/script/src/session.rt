@@ -13,7 +13,7 @@ ghost use Rattle.script.specs.Session.{state, Answers};
 use crate::reply::Reply;
 use crate::store::Store;
 use lines::command::{Command, MOST_WORDS, read};
-use lines::number::numbers;
+use lines::number::numbers_in;
 use lines::part::Part;
 use refusals::refusal::Refusal;
 use sources::error::Failure;
@@ -31,7 +31,7 @@ pub struct Session {
 fn table_of(heap: Global, follow: Part<'_>) -> Result<Table, Failure>
     ensures { (ns : List ℕ) → Lists follow.entry.text.now ns → length ns ≤ 64 → results.MatchResult result (λ t. words_of t ≡ ns) (λ e. NoTable ns e) }
 {
-    let words = numbers::<MOST_WORDS>(follow.text).unwrap_or_default();
+    let words = numbers_in::<MOST_WORDS>(follow.text).unwrap_or_default();
     Table::new(heap, words.as_slice())
 }
 

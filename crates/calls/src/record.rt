@@ -8,7 +8,7 @@ use cells::content::Content;
 use refusals::refusal::Refusal;
 
 // One hold: whether it is held, and with what.
-// No `Option`: the content lies in each record beside the flag, also where it is not held.
+// No `Option`: a table is adopted and given back as it is, also with a content where nothing is held.
 #[derive(Clone, Copy, PartialEq, Eq, Debug, Default)]
 pub struct HoldRecord {
     pub held: bool,

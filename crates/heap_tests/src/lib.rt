@@ -68,7 +68,7 @@ mod tests {
         Holds::adopt(records)
     }
 
-    // The number and the place of a refusal, where there is one.
+    // The number and the place of a refusal, where there is one: what the refusal table gives is what is tested.
     fn told<T: Drop>(answer: Result<T, Refusal>) -> Option<(u32, u64)> {
         let refusal = answer.err()?;
         Some((refusal.number(), refusal.place()))

@@ -5,7 +5,7 @@ use crate::number::number;
 use crate::part::Part;
 
 // A number of a command: the part of the line that writes it, and its value.
-#[derive(Clone, Copy)]
+#[derive(Clone, Copy, PartialEq, Eq, Debug)]
 pub struct Argument<'a> {
     pub part: Part<'a>,
     pub value: u32,

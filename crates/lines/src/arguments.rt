@@ -4,7 +4,7 @@ use crate::argument::Argument;
 use crate::words::Words;
 
 // The numbers after a name.
-#[derive(Clone, Copy)]
+#[derive(Clone, Copy, PartialEq, Eq, Debug)]
 pub(crate) enum Arguments<'a> {
     One(Argument<'a>),
     Two(Argument<'a>, Argument<'a>),

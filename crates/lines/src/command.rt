@@ -19,7 +19,7 @@ pub const MOST_WORDS: usize = 64;
 const LARGEST_HEAP: u32 = 1024;
 
 // What a line asks for, by its parts.
-#[derive(Clone, Copy)]
+#[derive(Clone, Copy, PartialEq, Eq, Debug)]
 pub enum Command<'a> {
     // The numbers of a table, each after a space, as the part of the line that writes them.
     Types {

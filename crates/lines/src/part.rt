@@ -1,7 +1,7 @@
 ghost use Rattle.lines.specs.Words.{Cut};
 
 // A part of a line: its bytes, and how many stand before it.
-#[derive(Clone, Copy)]
+#[derive(Clone, Copy, PartialEq, Eq, Debug)]
 pub struct Part<'a> {
     pub text: &'a [u8],
     pub at: usize,

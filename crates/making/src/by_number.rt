@@ -10,7 +10,7 @@ use scan::frame::Frame;
 use scan::guard::Marks;
 use sources::source::TemplateSource;
 
-// The hold gets a new cell of the type, all its words 0. Answers the cell's address.
+// The hold gets a new cell of the type, all its words 0. Answers the cell's address. What is lent may be of any length.
 pub fn make<S: TemplateSource>(
     words: &mut [u32],
     marks: &mut [u8],

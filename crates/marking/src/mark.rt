@@ -13,7 +13,8 @@ use scan::inspector::Nobody;
 use scan::walk::scan;
 use sources::source::TemplateSource;
 
-// Marks what each hold reaches in turn, until a scan is refused, and answers how many cells were marked.
+// Marks what each hold reaches in turn, until a scan is refused, and answers how many cells were marked. What it is lent comes in parts,
+// as `scan` takes it.
 fn scan_roots<S: TemplateSource>(
     words: &[u32],
     marks: &mut [u8],
@@ -38,7 +39,7 @@ fn scan_roots<S: TemplateSource>(
     Ok(visits)
 }
 
-// Marks each cell that a hold reaches, and answers how many they are. A refusal leaves no mark.
+// Marks each cell that a hold reaches, and answers how many they are. A refusal leaves no mark. What is lent may be of any length.
 pub fn mark_holds<S: TemplateSource>(
     words: &[u32],
     marks: &mut [u8],

@@ -23,7 +23,7 @@ pub trait Inspector {
 }
 
 // The inspector of a scan that only marks: it takes every visit and holds nothing.
-#[derive(Clone, Copy)]
+#[derive(Clone, Copy, PartialEq, Eq, Debug)]
 pub struct Nobody;
 
 impl Inspector for Nobody {

@@ -94,7 +94,8 @@ impl Store {
         Ok(Reply::Done)
     }
 
-    // Calls on the heap, where there is one.
+    // Calls on the heap, where there is one. Apart from `Session::call`, since of a pattern that looks into both options at once the
+    // proof did not close.
     pub(crate) fn call(&mut self, number: u64, command: Command<'_>) -> Result<Reply, Refusal>
         ensures { (line : List ℕ) (q : Request) → Held command.entry line q → phase_of q ≡ calling → Brings (with_heap self.old.source self.old.heap) number q (with_heap self.new.source self.new.heap) result }
     {

@@ -5,6 +5,7 @@
 mod tests {
     use layouts::entry::{Class, Entry};
     use layouts::place::Place;
+    use refusals::refusal::Refusal;
     use sources::check::check as check_table;
     use sources::mask::Mask;
     use sources::over::Over;
@@ -14,7 +15,7 @@ mod tests {
     use sources::uses::{class, count_references};
     use std::test::Fail;
 
-    // The number and the place of a table's refusal, if it is refused.
+    // The number and the place of a table's refusal, if it is refused: what the refusal table gives is what is tested.
     fn told(words: &[u32]) -> Option<(u32, u64)> {
         check_table(words).map(|refusal| (refusal.number(), refusal.place()))
     }
@@ -65,12 +66,14 @@ mod tests {
         for word in 1..33 {
             mask.cover(Place { code: 33025, word })?;
         }
-        match mask.cover(Place { code: 1, word: 1 }) {
-            Ok(()) => Err(Fail::new("a 33rd place")),
-            Err(refusal) => {
-                assert_eq!(rt; (refusal.number(), refusal.place()), (27, 32));
-                Ok(())
-            }
-        }
+        let refused = mask.cover(Place { code: 1, word: 1 });
+        assert_eq!(rt; refused, Err(Refusal::MaskFull));
+        assert_eq!(rt;
+            refused
+                .err()
+                .map(|refusal| (refusal.number(), refusal.place())),
+            Some((27, 32))
+        );
+        Ok(())
     }
 }

@@ -7,7 +7,7 @@ use crate::words::{LAST_CODE, MOST_WORDS, RULE_FIRST};
 use layouts::entry::Entry;
 
 // Templates for the codes from 32,768 on, which need no memory.
-#[derive(Clone, Copy)]
+#[derive(Clone, Copy, PartialEq, Eq, Debug)]
 pub struct Rule;
 
 // Where a code stands among those of the rule, counted from 0.

@@ -46,7 +46,7 @@ impl TemplateSource for Table {
     }
 }
 
-// The entry that a word of a table stands for. It is no `From`, which would have to stand in `layouts`, where no table is known.
+// The entry that a word of a table stands for. It is no `From`, which would have to stand in `layouts`, whose code has no words of a table.
 fn entry_from(word: u32) -> Entry
     ensures { result ≡ entry_of word }
 {

@@ -11,7 +11,8 @@ use scan::inspector::Inspector;
 use scan::walk::scan;
 use sources::source::TemplateSource;
 
-// Shows each cell that the hold reaches to the inspector, children first, and answers how many they are.
+// Shows each cell that the hold reaches to the inspector, children first, and answers how many they are. What is lent may be of any
+// length.
 pub fn trace<S: TemplateSource, I: Inspector>(
     words: &[u32],
     marks: &mut [u8],

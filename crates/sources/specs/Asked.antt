@@ -6,4 +6,4 @@ use Rattle.sources.specs.declared.spot.Spot.{Spot}
 
 -- a rule with these answers refuses each word of the table exactly as told
 abbrev pub Refuses : (Spot → Result (Unit {0}) Refusal → Type 0) → List ℕ → (ℕ → Option Refusal) → Type 0
-Refuses answers ws told = (s : Spot) (r : Result (Unit {0}) Refusal) → s.table.now.words.now ≡ ws → answers s r → result_err r ≡ told s.k
+Refuses answers ws told = (s : Spot) (r : Result (Unit {0}) Refusal) → s.words.now ≡ ws → answers s r → result_err r ≡ told s.k

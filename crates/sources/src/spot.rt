@@ -1,4 +1,4 @@
-ghost use Rattle.std.specs.Prelude.{◌≡◌, ◌<◌, length};
+ghost use Rattle.std.specs.Prelude.{◌≡◌, ◌<◌, ◌≤◌, length};
 ghost use Rattle.std.specs.Result.{result_err};
 ghost use Rattle.layouts.specs.Table.{due, template_refusal, entry_said, entry_refusal};
 
@@ -10,19 +10,20 @@ use refusals::refusal::Refusal;
 // A word under check, and how many entries are due there.
 #[derive(Clone, Copy)]
 pub(crate) struct Spot<'a> {
-    pub(crate) table: &'a Flagged<'a>,
+    pub(crate) words: &'a [u32],
     pub(crate) k: usize,
     pub(crate) left: u32,
-    ghost within: { k < length table.now.words.now },
-    ghost counted: { left ≡ due table.now.words.now k },
+    ghost short: { length words.now ≤ 32768 },
+    ghost within: { k < length words.now },
+    ghost counted: { left ≡ due words.now k },
 }
 
 impl<'a> Spot<'a> {
     // The refusal of the template that begins here, if one begins here and is refused.
     pub(crate) fn template_refusal(self) -> Result<(), Refusal>
-        ensures { result_err result ≡ template_refusal self.entry.table.now.words.now self.entry.k }
+        ensures { result_err result ≡ template_refusal self.entry.words.now self.entry.k }
     {
-        let words = self.table.words;
+        let words = self.words;
         let index = self.k as u32;
         if self.left > 0 {
             return Ok(());
@@ -37,30 +38,32 @@ impl<'a> Spot<'a> {
     }
 
     // What the word says as an entry: Z, P, a code, or a fault.
-    fn entry(self) -> Result<Entry, Refusal>
-        ensures { result ≡ entry_said self.entry.table.now.words.now self.entry.k }
+    fn entry(self, table: &Flagged<'_>) -> Result<Entry, Refusal>
+        requires { table.now.words.now ≡ self.words.now }
+        ensures { result ≡ entry_said self.entry.words.now self.entry.k }
     {
-        let words = self.table.words;
+        let words = self.words;
         let index = self.k as u32;
         match words[self.k] {
             Z_WORD => Ok(Entry::Z),
             P_WORD if self.left >= 2 && self.k + 1 < words.len() && words[self.k + 1] == Z_WORD =>
                 Ok(Entry::P),
             P_WORD => Err(Refusal::EntryPair { index }),
-            code @ 1..=LAST_INDEX if self.table.has_entries(code) => Ok(Entry::Code(code)),
+            code @ 1..=LAST_INDEX if table.has_entries(code) => Ok(Entry::Code(code)),
             1..=LAST_INDEX => Err(Refusal::EntryName { index }),
             _ => Err(Refusal::EntryNumber { index }),
         }
     }
 
     // The refusal of the entry here, if the word is an entry and is refused.
-    pub(crate) fn entry_refusal(self) -> Result<(), Refusal>
-        ensures { result_err result ≡ entry_refusal self.entry.table.now.words.now self.entry.k }
+    pub(crate) fn entry_refusal(self, table: &Flagged<'_>) -> Result<(), Refusal>
+        requires { table.now.words.now ≡ self.words.now }
+        ensures { result_err result ≡ entry_refusal self.entry.words.now self.entry.k }
     {
         if self.left == 0 {
             return Ok(());
         }
-        self.entry()?;
+        self.entry(table)?;
         Ok(())
     }
 }

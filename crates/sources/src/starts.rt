@@ -12,22 +12,22 @@ pub(crate) fn next_due(left: u32, word: u32) -> u32
 }
 
 // Words that are few enough for a table, with a flag for each that says whether a template begins there.
-// The check takes no memory, so the flags lie in an array of the largest size; they are written by index, since of what is written
-// through a `zip` with an `iter_mut` a proof knows no element.
-#[derive(Drop)]
+// The check takes no memory, so the flags lie in an array of the largest size, which is lent; they are written by index, since of
+// what is written through a `zip` with an `iter_mut` a proof knows no element.
+#[derive(Clone, Copy)]
 pub(crate) struct Flagged<'a> {
     pub(crate) words: &'a [u32],
-    pub(crate) starts: [bool; TABLE_WORDS],
+    pub(crate) starts: &'a [bool],
     ghost short: { length words.now ≤ 32768 },
-    ghost flagged: { Flags words.now starts },
+    ghost long: { length words.now ≤ length starts.now },
+    ghost flagged: { Flags words.now starts.now },
 }
 
 impl<'a> Flagged<'a> {
-    pub(crate) fn new(words: &'a [u32]) -> Flagged<'a>
+    pub(crate) fn new(words: &'a [u32], starts: &'a mut [bool; TABLE_WORDS]) -> Flagged<'a>
         requires { length words.now ≤ 32768 }
         ensures { result.words.now ≡ words.now }
     {
-        let mut starts = [false; TABLE_WORDS];
         let mut left = 0;
         for (k, word) in words.iter().enumerate() {
             starts[k] = k >= 1 && left == 0;

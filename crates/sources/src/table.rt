@@ -10,7 +10,7 @@ use crate::check::checked;
 use crate::error::Failure;
 use crate::source::TemplateSource;
 use crate::starts::Flagged;
-use crate::words::{P_WORD, Z_WORD};
+use crate::words::{P_WORD, TABLE_WORDS, Z_WORD};
 use layouts::entry::Entry;
 use std::alloc::{AllocError, Global};
 
@@ -66,12 +66,12 @@ fn has_word(n: u32, word: u32) -> bool
 
 // The words with their flags beside them.
 fn slots(heap: Global, flagged: &Flagged<'_>) -> Result<Vec<Slot>, AllocError>
-    ensures { IfOk result (λ v. v.items ≡ map slot_of (zip flagged.now.words.now flagged.now.starts)) }
+    ensures { IfOk result (λ v. v.items ≡ map slot_of (zip flagged.now.words.now flagged.now.starts.now)) }
 {
     flagged
         .words
         .iter()
-        .zip(&flagged.starts)
+        .zip(flagged.starts)
         .map(|(word, begins)| Slot {
             word: *word,
             begins: *begins,
@@ -95,7 +95,8 @@ impl Table {
     pub fn new(heap: Global, words: &[u32]) -> Result<Table, Failure>
         ensures { MatchResult result (λ t. (words_of t ≡ words.now) × MeansTemplates words.now (table (words_of t))) (λ e. NoTable words.now e) }
     {
-        let flagged = checked(words)?;
+        let mut starts = [false; TABLE_WORDS];
+        let flagged = checked(words, &mut starts)?;
         Ok(copied(heap, &flagged)?)
     }
 

@@ -6,6 +6,6 @@ use Rattle.sources.proofs.check.ask_each.Given as goal
 
 abbrev pub invariant-loop-k : goal.invariant-loop-k
 invariant-loop-k g l = record {
-  counted : l.left ≡ due l.table.words.now l.k;
-  none : (told : ℕ → Option Refusal) → Refuses (goal.F-post g l.rule) l.table.words.now told → lowest told l.k ≡ None;
+  counted : l.left ≡ due l.words l.k;
+  none : (told : ℕ → Option Refusal) → Refuses (goal.F-post g l.rule) l.words told → lowest told l.k ≡ None;
 }

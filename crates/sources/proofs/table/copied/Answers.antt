@@ -8,7 +8,7 @@ use Rattle.sources.proofs.table.copied.Goals as goal
 pub invariant_of-result : goal.invariant_of-result
 invariant_of-result c =
     let ws = c.args.flagged.now.words.now in
-    let bs = c.args.flagged.now.starts in
+    let bs = c.args.flagged.now.starts.now in
     let long : length ws ≤ length bs = omega arith in
     let e : c.in_ok-slots.slots.items ≡ map slot_of (zip ws bs) = c.in_ok-slots.ensures in record {
       accepted = subst Accepted (sym (ap words_in e ∙ words_kept ws bs long)) c.requires;
@@ -18,6 +18,6 @@ invariant_of-result c =
 pub returns : goal.returns
 returns c =
     let ws = c.args.flagged.now.words.now in
-    let bs = c.args.flagged.now.starts in
+    let bs = c.args.flagged.now.starts.now in
     let long : length ws ≤ length bs = omega arith in
     ap words_in c.in_ok-slots.ensures ∙ words_kept ws bs long

@@ -8,18 +8,12 @@ ghost use Rattle.sources.specs.Errors.{NoTable};
 
 use crate::check::checked;
 use crate::error::Failure;
+use crate::slot::Slot;
 use crate::source::TemplateSource;
 use crate::starts::Flagged;
 use crate::words::{P_WORD, TABLE_WORDS, Z_WORD};
 use layouts::entry::Entry;
 use std::alloc::{AllocError, Global};
-
-// A word of an accepted table, and whether a template begins there.
-#[derive(Clone, Copy)]
-struct Slot {
-    word: u32,
-    begins: bool,
-}
 
 // An accepted table, which answers a question in constant time.
 #[derive(Drop)]
@@ -72,10 +66,7 @@ fn slots(heap: Global, flagged: &Flagged<'_>) -> Result<Vec<Slot>, AllocError>
         .words
         .iter()
         .zip(flagged.starts)
-        .map(|(word, begins)| Slot {
-            word: *word,
-            begins: *begins,
-        })
+        .map(|(word, begins)| Slot::new(*word, *begins))
         .collect(heap)
 }
 
@@ -105,7 +96,7 @@ impl Table {
         ensures { result ≡ cond (begins (words_of self.now) index) (Some (slice_index (words_of self.now) index)) None }
     {
         match self.slots.get(index as usize) {
-            Some(Slot { word, begins: true }) => Some(*word),
+            Some(slot) if slot.begins() => Some(slot.word()),
             _ => None,
         }
     }
@@ -116,7 +107,7 @@ impl Table {
     {
         let n = self.entries_at(code)?;
         if has_word(n, word) {
-            Some(self.slots[code as usize + word as usize].word)
+            Some(self.slots[code as usize + word as usize].word())
         } else {
             None
         }

@@ -1,6 +1,6 @@
 -- What a line buffer holds.
-use Rattle.std.specs.Prelude.{ℕ, List}
+use Rattle.std.specs.Prelude.{ℕ, List, take}
 use Rattle.lines.specs.declared.buffer.LineBuffer.{LineBuffer}
 
 abbrev pub held : LineBuffer → List ℕ
-held b = b.bytes.items
+held b = take b.used b.bytes

@@ -1,6 +1,9 @@
-use Rattle.lines.proofs.Buffers.{pushed}
+use Rattle.std.proofs.Common.{rules}
+use Rattle.lines.proofs.Buffers.{pushed_below, pushed_past}
 use Rattle.lines.proofs.buffer.LineBuffer.push.Goals as goal
 
-pub returns : goal.returns
-returns c =
-    pushed c.args.self.now.bytes c.try_push.new.self c.args.byte c.try_push.result c.try_push.ensures.variant c.try_push.ensures.ok c.try_push.ensures.err c.try_push.ensures.full
+pub returns-then-self-lt-ROOM : goal.returns-then-self-lt-ROOM
+returns-then-self-lt-ROOM c = pushed_below c.args.self.now.bytes c.args.self.now.used c.args.byte (search rules) (search rules)
+
+pub returns-else-self-lt-ROOM : goal.returns-else-self-lt-ROOM
+returns-else-self-lt-ROOM c = pushed_past c.args.self.now.bytes c.args.self.now.used c.args.byte (search rules) (search rules) (search rules)

@@ -18,7 +18,10 @@ pub fn number(word: &[u8]) -> Option<u32>
     if !is_plain(word) {
         return None;
     }
-    std::str::from_utf8(word).ok()?.parse().ok()
+    match std::str::from_utf8(word) {
+        Ok(text) => text.parse().ok(),
+        Err(_) => None,
+    }
 }
 
 // Writes the numbers of a text, each after a space, into the buffer, and answers how many they are. The room of a lent buffer is known

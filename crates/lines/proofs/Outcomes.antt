@@ -1,5 +1,5 @@
 -- What is known of a result by its `ok`.
-use Rattle.std.proofs.Common.{◌≡◌, Some, None, Ok, Err, IsOk, Result, refl, sym, subst, MatchResult}
+use Rattle.std.proofs.Common.{◌≡◌, Some, Ok, Err, IsOk, Result, refl, sym, subst, MatchResult}
 use Rattle.std.specs.Result.{result_ok}
 use Rattle.std.proofs.lemmas.Option.{none-some, same_Some}
 
@@ -10,7 +10,3 @@ is_ok_some (Err y) x e = absurd (none-some x (sym e))
 pub some_ok : {T E : Type 0} (P : T → Type 0) (Q : E → Type 0) (r : Result T E) (x : T) → Some x ≡ result_ok r → MatchResult r P Q → P x
 some_ok P Q (Ok y) x e h = subst P (sym (same_Some x y e)) h
 some_ok P Q (Err y) x e h = absurd (none-some x (sym e))
-
-pub none_ok : {T E : Type 0} (P : T → Type 0) (Q : E → Type 0) (r : Result T E) → None ≡ result_ok r → MatchResult r P Q → (e : E) × Q e
-none_ok P Q (Ok y) e h = absurd (none-some y e)
-none_ok P Q (Err y) e h = (y, h)

@@ -1,5 +1,5 @@
 -- What pending frames have still to do, and what each turn of the scan keeps true of them.
-use Rattle.std.specs.Prelude.{◌≡◌, ℕ, zero, suc, ◌+◌, ◌-◌, ◌*◌, ◌<◌, ◌≤◌, List, [], ◌∷◌, ◌++◌, length, Err, Ok, Option, slice_index_or, slice_set}
+use Rattle.std.specs.Prelude.{◌≡◌, ℕ, zero, suc, ◌+◌, ◌-◌, ◌*◌, ◌<◌, ◌≤◌, ◌⊎◌, List, [], ◌∷◌, ◌++◌, length, Err, Ok, Option, slice_index_or, slice_set}
 use Rattle.layouts.specs.Types.{Types}
 use Rattle.scan.specs.Visits.{Visit}
 use Rattle.scan.specs.Marks.{IsMarked, mark_words, unmarked}
@@ -73,9 +73,13 @@ pub record UnderWay {S : Type 0} (means : S → Types) (a : Walk S) : Type 0 whe
   pub good : Good (means a.source.now) (length a.words.now) a.marks.now a.pending.now a.depth
   pub few : a.visits + (a.depth + unmarked a.marks.now) ≤ length a.words.now
 
--- a turn goes on, with a visit more or none, or it stops
+-- there is one visit, and one frame less is pending
+abbrev pub OneVisit : List Visit → ℕ → ℕ → Type 0
+OneVisit vs d d' = (v : Visit) × (vs ≡ v ∷ []) × (d' + 1 ≡ d)
+
+-- a turn goes on, with no visit or with one, or it stops
 abbrev pub Turned : {S I : Type 0} (means : S → Types) (step : I → Visit → Option I) → Walk S → I → Walk S → I → Ending → Type 0
-Turned means step a i b j (Ok x) = (vs : List Visit) × (b.visits ≡ a.visits + length vs) × Advanced (means a.source.now) a.words.now step a.marks.now a.pending.now a.depth i vs b.marks.now b.pending.now b.depth j
+Turned means step a i b j (Ok x) = (vs : List Visit) × (b.visits ≡ a.visits + length vs) × Advanced (means a.source.now) a.words.now step a.marks.now a.pending.now a.depth i vs b.marks.now b.pending.now b.depth j × ((vs ≡ []) ⊎ OneVisit vs a.depth b.depth)
 Turned means step a i b j (Err stop) = (b.visits ≡ a.visits) × Resume (means a.source.now) a.words.now step (frames a.pending.now a.depth) a.marks.now i [] b.marks.now j (Err stop)
 
 -- the turns together, to their end

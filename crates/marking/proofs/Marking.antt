@@ -17,9 +17,9 @@ kept_stopped : (L : ℕ) (m : List ℕ) (e : Ending) → Stops e → kept L m e 
 kept_stopped L m (Ok x) stop = absurd stop
 kept_stopped L m (Err e) stop = refl
 
-module _ (t : Types) (w : List ℕ) (rs rs' : List HoldRecord) (P : ℕ) (m m₀ m₁ m' : List ℕ) (due : None ≡ memory_due (length w) (length m) P) (same : rs' ≡ rs) (zero : m₀ ≡ replicate (length w) 0) where
-  marking : (r : Result ℕ Refusal) (one : Scans t w (roots rs') m₀ m₁ r) → m' ≡ kept (length w) m₁ one.ending → Marks t w rs P m m' r
-  marking r one is =
+module _ (t : Types) (w : List ℕ) (rs rs' : List HoldRecord) (P : ℕ) (m m₀ m₁ m' : List ℕ) (due : None ≡ memory_due (length w) (length m) P) (same : rs' ≡ rs) where
+  marking : (r : Result ℕ Refusal) (one : Scans t w (roots rs') m₀ m₁ r) → m₀ ≡ replicate (length w) 0 → m' ≡ kept (length w) m₁ one.ending → Marks t w rs P m m' r
+  marking r one zero is =
       let run : Roots t w (roots rs) (replicate (length w) 0) one.visits m₁ one.ending = subst (λ x. Roots t w (roots rs) x one.visits m₁ one.ending) zero (subst (λ (x : List HoldRecord). Roots t w (roots x) m₀ one.visits m₁ one.ending) same one.run) in
       record {
         small = λ f few. let z : ◌≡◌ {A = ℕ} 0 1 = cc in absurd (omega arith);
@@ -34,14 +34,14 @@ module _ (t : Types) (w : List ℕ) (rs rs' : List HoldRecord) (P : ℕ) (m m₀
         };
       }
 
-  pub marked_all : (n : ℕ) → Scans t w (roots rs') m₀ m₁ (Ok n) → m' ≡ m₁ → Marks t w rs P m m' (Ok n)
-  marked_all n one is =
+  pub marked_all : (n : ℕ) → Scans t w (roots rs') m₀ m₁ (Ok n) → m₀ ≡ replicate (length w) 0 → m' ≡ m₁ → Marks t w rs P m m' (Ok n)
+  marked_all n one zero is =
       let end = told_done t w one.ending _ n one.answer in
-      marking (Ok n) one (is ∙ sym (ap (kept (length w) m₁) end.0))
+      marking (Ok n) one zero (is ∙ sym (ap (kept (length w) m₁) end.0))
 
-  pub refused_all : (r r' : Result ℕ Refusal) (f : Refusal) → r ≡ Err f → r' ≡ Err f → Scans t w (roots rs') m₀ m₁ r → m' ≡ replicate (length m₁) 0 → Marks t w rs P m m' r'
-  refused_all r r' f is is' one zeroed =
+  pub refused_all : (r r' : Result ℕ Refusal) (f : Refusal) → r ≡ Err f → r' ≡ Err f → Scans t w (roots rs') m₀ m₁ r → m₀ ≡ replicate (length w) 0 → m' ≡ replicate (length m₁) 0 → Marks t w rs P m m' r'
+  refused_all r r' f is is' one zero zeroed =
       let stop = (told_stops t w one.ending (length one.visits) 0 f (sym is ∙ one.answer)).0 in
       let long : length m₁ ≡ length w = marks_long t w one.run ∙ ap length zero ∙ length-replicate (length w) 0 in
       let back : r ≡ r' = is ∙ sym is' in
-      subst (λ (x : Result ℕ Refusal). Marks t w rs P m m' x) back (marking r one (zeroed ∙ ap (λ n. replicate n 0) long ∙ sym (kept_stopped (length w) m₁ one.ending stop)))
+      subst (λ (x : Result ℕ Refusal). Marks t w rs P m m' x) back (marking r one zero (zeroed ∙ ap (λ n. replicate n 0) long ∙ sym (kept_stopped (length w) m₁ one.ending stop)))

@@ -1,13 +1,14 @@
 -- A sweep from the last word down.
-use Rattle.std.proofs.Common.{◌≡◌, ℕ, ◌+◌, ◌-◌, ◌<◌, ◌≤◌, ◌⊎◌, List, [], ◌∷◌, ◌++◌, length, get_or, take, set, sym, refl, ap, ◌∙◌, subst, ⊎_elim, arith}
+use Rattle.std.proofs.Common.{◌≡◌, ℕ, ◌+◌, ◌-◌, ◌<◌, ◌≤◌, ◌⊎◌, List, [], ◌∷◌, ◌++◌, length, get_or, drop, take, set, sym, refl, ap, ◌∙◌, subst, ⊎_elim, arith}
 use Rattle.std.proofs.Math.Nat.{eq-zero-or-pos}
 use Rattle.std.proofs.lemmas.Bool.{cases_lt}
-use Rattle.std.proofs.lemmas.List.{get_or-set_same, get_or-set_other, length-set, length-append, take-take, get_or-take}
+use Rattle.std.proofs.lemmas.List.{get_or-set_same, get_or-set_other, length-set, length-append, drop_all, take-take, get_or-take}
 use Rattle.std.proofs.Math.Seq.{take-length, take-append_seam, get_or-append_seam}
-use Rattle.scan.specs.Marks.{IsMarked}
+use Rattle.scan.specs.Marks.{IsMarked, unmarked}
 use Rattle.free_list.specs.Free.{size_of, link_of, runWord, Run, span, proper, Free}
 use Rattle.sweeping.specs.Sweeping.{IsFree, Stretch, Stretches, NoStart, Swept, Closed}
 use Rattle.free_list.proofs.Cutting.{link_made, size_made, made_of}
+use Rattle.sweeping.proofs.Counts.{count_marked, count_unmarked_lem}
 
 -- the runs from the one at h on, all of them from word e on
 abbrev pub Chain : List ℕ → ℕ → ℕ → List Run → Type 0
@@ -115,14 +116,16 @@ partly_made w₀ m w next a s some stretch lm lw d =
     }
 
 -- the whole state of a sweep that has come down to word a, with a stretch of s words open there
-pub record State (w₀ m w : List ℕ) (next a s : ℕ) : Type 0 where
+pub record State (w₀ m w : List ℕ) (next a s free : ℕ) : Type 0 where
   pub swept : Partly w₀ m w next (a + s)
   pub loose : (k : ℕ) → a ≤ k → k < a + s → IsFree m k
   pub edge : a + s < length m → IsMarked m (a + s)
   pub there : 1 ≤ a
   pub within : a + s ≤ length m
+  pub few : free + a ≤ length m
+  pub count : free ≡ unmarked (drop a m)
 
-pub state_start : (w m : List ℕ) (n : ℕ) → n ≡ length w → length m ≡ length w → 2 ≤ length w → State w m w 0 n 0
+pub state_start : (w m : List ℕ) (n : ℕ) → n ≡ length w → length m ≡ length w → 2 ≤ length w → State w m w 0 n 0 0
 state_start w m n at long some = record {
   swept = record {
     runs = [];
@@ -137,13 +140,15 @@ state_start w m n at long some = record {
   edge = λ h. absurd (omega arith);
   there = omega arith;
   within = omega arith;
+  few = omega arith;
+  count = sym (ap unmarked (drop_all n m (omega arith)));
 }
 
-pub state_unmarked : (w₀ m w : List ℕ) (next a b s : ℕ) → 1 ≤ a → b ≡ a + 1 → IsFree m a
-    → State w₀ m w next b s → State w₀ m w next a (s + 1)
-state_unmarked w₀ m w next a b s there up un open-here =
-    let D : ℕ → Type 0 = λ x. State w₀ m w next x s in
-    let d : State w₀ m w next (a + 1) s = subst D up open-here in
+pub state_unmarked : (w₀ m w : List ℕ) (next a b s free : ℕ) → 1 ≤ a → b ≡ a + 1 → IsFree m a
+    → State w₀ m w next b s free → State w₀ m w next a (s + 1) (free + 1)
+state_unmarked w₀ m w next a b s free there up un open-here =
+    let D : ℕ → Type 0 = λ x. State w₀ m w next x s free in
+    let d : State w₀ m w next (a + 1) s free = subst D up open-here in
     let same : (a + 1) + s ≡ a + (s + 1) = omega arith in
     let P : ℕ → Type 0 = λ e. Partly w₀ m w next e in
     let Q : ℕ → Type 0 = λ e. e < length m → IsMarked m e in
@@ -153,12 +158,14 @@ state_unmarked w₀ m w next a b s there up un open-here =
       edge = subst Q same d.edge;
       there = there;
       within = omega (arith, d.within);
+      few = omega (arith, d.few);
+      count = count_unmarked_lem m a free (omega (arith, d.within)) un d.count;
     }
 
 -- the open stretch is closed
-close_step : (w₀ m w : List ℕ) (next a s : ℕ) (v : List ℕ) (head : ℕ) → 1 ≤ a → (1 < a → IsMarked m (a - 1))
-    → length m ≡ length w → length w ≤ 65536 → Closed w a s next v head → State w₀ m w next a s → Partly w₀ m v head a
-close_step w₀ m w next a s v head there first lm lw closed d =
+close_step : (w₀ m w : List ℕ) (next a s free : ℕ) (v : List ℕ) (head : ℕ) → 1 ≤ a → (1 < a → IsMarked m (a - 1))
+    → length m ≡ length w → length w ≤ 65536 → Closed w a s next v head → State w₀ m w next a s free → Partly w₀ m v head a
+close_step w₀ m w next a s free v head there first lm lw closed d =
     ⊎_elim
     (λ none.
     let e = closed.empty none in
@@ -176,31 +183,33 @@ close_step w₀ m w next a s v head there first lm lw closed d =
     subst R (sym e.1) (subst Q (sym e.0) (partly_made w₀ m w next a s some stretch lm lw d.swept)))
     (eq-zero-or-pos s)
 
-pub state_marked : (w₀ m w : List ℕ) (next a b s : ℕ) (v : List ℕ) (head p t : ℕ) → 1 ≤ a → b ≡ a + 1 → IsMarked m a
+pub state_marked : (w₀ m w : List ℕ) (next a b s free : ℕ) (v : List ℕ) (head p t : ℕ) → 1 ≤ a → b ≡ a + 1 → IsMarked m a
     → length m ≡ length w → length w ≤ 65536 → p ≡ a + 1 → Closed w p s next v head → t ≡ 0
-    → State w₀ m w next b s → State w₀ m v head a t
-state_marked w₀ m w next a b s v head p t there up marked lm lw past closed none open-here =
-    let D : ℕ → Type 0 = λ x. State w₀ m w next x s in
-    let d : State w₀ m w next (a + 1) s = subst D up open-here in
+    → State w₀ m w next b s free → State w₀ m v head a t free
+state_marked w₀ m w next a b s free v head p t there up marked lm lw past closed none open-here =
+    let D : ℕ → Type 0 = λ x. State w₀ m w next x s free in
+    let d : State w₀ m w next (a + 1) s free = subst D up open-here in
     let C : ℕ → Type 0 = λ x. Closed w x s next v head in
     let M : ℕ → Type 0 = λ k. IsMarked m k in
     let P : ℕ → Type 0 = λ e. Partly w₀ m v head e in
     let before : a ≡ (a + 1) - 1 = omega arith in
     let at : a ≡ a + t = omega arith in
-    let closed-up = close_step w₀ m w next (a + 1) s v head (omega arith) (λ h. subst M before marked) lm lw (subst C past closed) d in
+    let closed-up = close_step w₀ m w next (a + 1) s free v head (omega arith) (λ h. subst M before marked) lm lw (subst C past closed) d in
     record {
       swept = subst P at (partly_down w₀ m v head a marked closed-up);
       loose = λ k l h. absurd (omega arith);
       edge = λ h. subst M at marked;
       there = there;
       within = omega (arith, d.within);
+      few = omega (arith, d.few);
+      count = count_marked m a free (omega (arith, d.within)) marked d.count;
     }
 
-pub state_done : (w₀ m w : List ℕ) (next s : ℕ) (v : List ℕ) (head high x : ℕ) (u : List ℕ) → length m ≡ length w → length w ≤ 65536
+pub state_done : (w₀ m w : List ℕ) (next s free : ℕ) (v : List ℕ) (head high x : ℕ) (u : List ℕ) → length m ≡ length w → length w ≤ 65536
     → Closed w 1 s next v head → x ≡ runWord (link_of high) (link_of head) → high ≡ size_of (get_or v 0 0) → high < 65536 → u ≡ set v 0 x
-    → State w₀ m w next 1 s → Swept w₀ m u
-state_done w₀ m w next s v head high x u lm lw closed x-is high_is half u-is d =
-    let p = close_step w₀ m w next 1 s v head (omega arith) (λ h. absurd (omega arith)) lm lw closed d in
+    → State w₀ m w next 1 s free → Swept w₀ m u
+state_done w₀ m w next s free v head high x u lm lw closed x-is high_is half u-is d =
+    let p = close_step w₀ m w next 1 s free v head (omega arith) (λ h. absurd (omega arith)) lm lw closed d in
     let t = set v 0 x in
     let lw₀ : length w ≡ length w₀ = d.swept.long in
     let lv : length v ≡ length w₀ = p.long in

@@ -7,7 +7,7 @@ use refusals::refusal::Refusal;
 use scan::guard::MARKED;
 
 // How many words from word 1 on are unmarked.
-pub(crate) fn count_unmarked(marks: &[u8]) -> usize
+fn count_unmarked(marks: &[u8]) -> usize
     ensures count { result ≡ unmarked (drop 1 marks.now) }
     ensures few { result ≤ length marks.now }
 {

@@ -23,22 +23,23 @@ loop-at-preserved-then-mark-eq-MARKED c =
     let i = c.loop-at.invariant in
     let d = down_one c.args.marks.now _ _ c.in-Some.mark.now steps.1.1.1.0 i.2 in
     let at = steps.1.1.1.1 in
-    (steps.0 ∙ i.0, steps.1.1.0 ∙ i.1, d.1, state_marked _ _ c.loop-at.words _ _ _ _ _ _ _ _ (omega (arith, d.0, steps.1.0, i.0)) d.0 (d.2 ∙ c.if-mark-eq-MARKED.true) (omega arith) (omega arith) (omega (arith, at, i.1)) c.close.ensures.words c.close.ensures.empty i.3)
+    (steps.0 ∙ i.0, steps.1.1.0 ∙ i.1, d.1, state_marked _ _ c.loop-at.words _ _ _ _ _ _ _ _ _ (omega (arith, d.0, steps.1.0, i.0)) d.0 (d.2 ∙ c.if-mark-eq-MARKED.true) (omega arith) (omega arith) (omega (arith, at, i.1)) c.close.ensures.words c.close.ensures.empty i.3)
 
 pub loop-at-preserved : goal.loop-at-preserved
 loop-at-preserved c =
     let steps = c.in-Some.ensures.steps in
     let i = c.loop-at.invariant in
     let d = down_one c.args.marks.now _ _ c.in-Some.mark.now steps.1.1.1.0 i.2 in
-    (steps.0 ∙ i.0, steps.1.1.0 ∙ i.1, d.1, state_unmarked _ _ _ _ _ _ _ (omega (arith, d.0, steps.1.0, i.0)) d.0 (λ marked. c.if-mark-eq-MARKED.false (sym d.2 ∙ marked)) i.3)
+    (steps.0 ∙ i.0, steps.1.1.0 ∙ i.1, d.1, state_unmarked _ _ _ _ _ _ _ _ (omega (arith, d.0, steps.1.0, i.0)) d.0 (λ marked. c.if-mark-eq-MARKED.false (sym d.2 ∙ marked)) i.3)
 
 pub returns : goal.returns
 returns c =
     let i = c.loop-at.invariant in
-    let D : ℕ → Type 0 = λ a. State c.args.words.now c.args.marks.now c.loop-at.words c.loop-at.stretch.next a c.loop-at.stretch.size in
+    let D : ℕ → Type 0 = λ a. State c.args.words.now c.args.marks.now c.loop-at.words c.loop-at.stretch.next a c.loop-at.stretch.size c.loop-at.free in
     let d = subst D (one_ahead _ _ i.0 i.3.there (λ more. (c.in-None.ensures.steps.1 more).1.0)) i.3 in
     record {
-      words = state_done _ _ c.loop-at.words _ _ _ _ _ _ _ (omega arith) (omega arith) c.close-2.ensures.words c.into.ensures c.from.ensures.0 (omega (arith, c.from.ensures.0)) refl d;
+      answer = d.count;
+      words = state_done _ _ c.loop-at.words _ _ _ _ _ _ _ _ (omega arith) (omega arith) c.close-2.ensures.words c.into.ensures c.from.ensures.0 (omega (arith, c.from.ensures.0)) refl d;
       once = one_sweep;
       room = room_law;
     }

@@ -10,4 +10,4 @@ invariant-loop-at l =
     let from = rev_source l.at-iterator in
     let ahead = iter_rest (enumerate_source (skip_source from)) in
     (skip_count from ≡ 1) × (enumerate_count (skip_source from) ≡ 0) × (ahead ≡ take (length ahead) l.marks)
-    × State l.initial.words l.marks l.words l.stretch.next (length ahead) l.stretch.size
+    × State l.initial.words l.marks l.words l.stretch.next (length ahead) l.stretch.size l.free

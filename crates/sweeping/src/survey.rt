@@ -11,7 +11,14 @@ fn count_unmarked(marks: &[u8]) -> usize
     ensures count { result ≡ unmarked (drop 1 marks.now) }
     ensures few { result ≤ length marks.now }
 {
-    marks.iter().skip(1).filter(|mark| **mark != MARKED).count()
+    let after = marks.get(1..).unwrap_or_default();
+    let mut free = 0;
+    for mark in after {
+        if *mark != MARKED {
+            free += 1;
+        }
+    }
+    free
 }
 
 // How many words a sweep of `length` words would free. Nothing changes.

@@ -226,7 +226,7 @@ module _ (vs : List Visit) (t : Tally) (r : Since empty vs t) where
       let cells = counted_cells v.code in let words = counted_words v.code in
       (λ e. let h = refused_past v.code (length v.words) t.rows r.sound r.many (refused_none _ _ e) in grind arith, λ f. let h : Past v.code (length v.words) t.rows r.sound r.many = grind arith in none_refused _ _ (past_refused v.code (length v.words) t.rows r.sound r.many h))
 
-counts_empty : Counts empty
+pub counts_empty : Counts empty
 counts_empty vs t h =
     let r = since vs empty t (sound_blank 32) refl h in
     ((r.types, λ c. (counted_cells vs t r c, counted_words vs t r c)), refuses vs t r)

@@ -44,7 +44,7 @@ module _ (t : Types) (w : List ℕ) where
   one_root c a m s vs m' s' (Ok x) fit r = subst (λ us. Roots t w (Cell c a ∷ []) m us m' Done) (append-nil vs) (scanned fit r finished)
   one_root c a m s vs m' s' (Err e) fit r = stopped fit r tt
 
-  root_scanned : (k : Content) (c a P : ℕ) (m : List ℕ) (s : Nobody) (m' : List ℕ) (s' : Nobody) (x : Scanned) (r : Result ℕ Refusal) → k ≡ Cell c a → unscanned t (length w) (length m) P c a ≡ None → Traced t w takes_all c a m s m' s' x → r ≡ told x.ending x.visits → Scans t w (k ∷ []) m m' r
+  pub root_scanned : (k : Content) (c a P : ℕ) (m : List ℕ) (s : Nobody) (m' : List ℕ) (s' : Nobody) (x : Scanned) (r : Result ℕ Refusal) → k ≡ Cell c a → unscanned t (length w) (length m) P c a ≡ None → Traced t w takes_all c a m s m' s' x → r ≡ told x.ending x.visits → Scans t w (k ∷ []) m m' r
   root_scanned k c a P m s m' s' x r is none made e =
       subst (λ (y : Content). Scans t w (y ∷ []) m m' r) (sym is)
       (record {

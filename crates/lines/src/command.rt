@@ -67,6 +67,8 @@ pub enum Command<'a> {
     },
 }
 
+// Inlined, so that no command goes through memory on its way out of `read`.
+#[inline(always)]
 fn parse_types<'a>(follow: Part<'a>) -> Option<Command<'a>>
     ensures { ParsesTypes follow.entry result }
 {

@@ -40,7 +40,8 @@ pub fn numbers(text: &[u8], buffer: &mut [u32]) -> Option<usize>
     Some(count)
 }
 
-// The numbers of a text, each after a space, if there is room for them.
+// The numbers of a text, each after a space, if there is room for them. Inlined, so that a caller that only tests for them writes none.
+#[inline(always)]
 pub fn numbers_in<const N: usize>(text: &[u8]) -> Option<ArrayVec<u32, N>>
     ensures { Gives text.now N result }
 {

@@ -27,7 +27,8 @@ pub struct Session {
     store: Option<Store>,
 }
 
-// The table of a command's numbers, or why there is none.
+// The table of a command's numbers, or why there is none. Kept out of line, so that only a line of a table pays for its flags.
+#[inline(never)]
 fn table_of(heap: Global, follow: Part<'_>) -> Result<Table, Failure>
     ensures { (ns : List ℕ) → Lists follow.entry.text.now ns → length ns ≤ 64 → results.MatchResult result (λ t. words_of t ≡ ns) (λ e. NoTable ns e) }
 {

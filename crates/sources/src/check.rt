@@ -11,7 +11,7 @@ use crate::starts::{Flagged, next_due};
 use crate::words::TABLE_WORDS;
 use refusals::refusal::Refusal;
 
-fn is_bad_start(words: &[u32]) -> bool
+pub(crate) fn is_bad_start(words: &[u32]) -> bool
     ensures { result ≡ bad_start words.now }
 {
     words.is_empty() || words.len() > TABLE_WORDS || words[0] != 0
@@ -34,18 +34,16 @@ fn ask_each<'a, F: Fn(Spot<'a>) -> Result<(), Refusal>>(
     Ok(())
 }
 
-// The words with their flags, which lie in the array that is lent, or the refusal of the table. The words are flagged once every
-// template is accepted, so that a refusal takes no longer than the words before it.
+// The words with their flags, which lie in the array that is lent, or the refusal of a table that starts well. The words are flagged
+// once every template is accepted, so that a refusal takes no longer than the words before it.
 pub(crate) fn checked<'a>(
     words: &'a [u32],
     starts: &'a mut [bool; TABLE_WORDS],
 ) -> Result<Flagged<'a>, Refusal>
+    requires { bad_start words.now ≡ false }
     ensures refusal { result_err result ≡ table_refusal words.now }
     ensures words { IfOk result (λ t. t.words.now ≡ words.now) }
 {
-    if is_bad_start(words) {
-        return Err(Refusal::TableStart);
-    }
     ask_each(words, Spot::template_refusal)?;
     let table = Flagged::new(words, starts);
     ask_each(words, |spot| spot.entry_refusal(&table))?;
@@ -57,6 +55,9 @@ pub fn check(words: &[u32]) -> Option<Refusal>
     ensures refusal { result ≡ table_refusal words.now }
     ensures exactly { (is_some result ≡ false → FollowsRule words.now) × (FollowsRule words.now → is_some result ≡ false) }
 {
+    if is_bad_start(words) {
+        return Some(Refusal::TableStart);
+    }
     let mut starts = [false; TABLE_WORDS];
     checked(words, &mut starts).err()
 }

@@ -6,13 +6,14 @@ ghost use Rattle.layouts.proofs.TableLaws.{table_lawful};
 ghost use Rattle.sources.specs.Slots.{slot_of, words_in, SlotsFlagged};
 ghost use Rattle.sources.specs.Errors.{NoTable};
 
-use crate::check::checked;
+use crate::check::{checked, is_bad_start};
 use crate::error::Failure;
 use crate::slot::Slot;
 use crate::source::TemplateSource;
 use crate::starts::Flagged;
 use crate::words::{P_WORD, TABLE_WORDS, Z_WORD};
 use layouts::entry::Entry;
+use refusals::refusal::Refusal;
 use std::alloc::{AllocError, Global};
 
 // An accepted table, which answers a question in constant time.
@@ -86,6 +87,9 @@ impl Table {
     pub fn new(heap: Global, words: &[u32]) -> Result<Table, Failure>
         ensures { MatchResult result (λ t. (words_of t ≡ words.now) × MeansTemplates words.now (table (words_of t))) (λ e. NoTable words.now e) }
     {
+        if is_bad_start(words) {
+            return Err(Refusal::TableStart.into());
+        }
         let mut starts = [false; TABLE_WORDS];
         let flagged = checked(words, &mut starts)?;
         Ok(copied(heap, &flagged)?)

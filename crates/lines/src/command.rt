@@ -67,7 +67,7 @@ pub enum Command<'a> {
     },
 }
 
-// Inlined, so that no command goes through memory on its way out of `read`.
+// Inlined, so that no command is copied on its way out of `read`.
 #[inline(always)]
 fn parse_types<'a>(follow: Part<'a>) -> Option<Command<'a>>
     ensures { ParsesTypes follow.entry result }

@@ -35,7 +35,7 @@ fn ask_each<'a, F: Fn(Spot<'a>) -> Result<(), Refusal>>(
 }
 
 // The words with their flags, which lie in the array that is lent, or the refusal of a table that starts well. The words are flagged
-// once every template is accepted, so that a refusal takes no longer than the words before it.
+// once every template is accepted, so that the refusal of a template takes no longer than the words before it.
 pub(crate) fn checked<'a>(
     words: &'a [u32],
     starts: &'a mut [bool; TABLE_WORDS],

@@ -1,12 +1,9 @@
--- Where the words of an accepted table's templates stand, and how large its words are.
-use Rattle.std.proofs.Common.{◌≡◌, ℕ, ◌+◌, ◌<◌, ◌≤◌, ◌&&◌, Bool, true, cond, eqb, leb, Some, None, List, length, get_or, inl, inr, arith}
-use Rattle.std.proofs.lemmas.Bool.{cases_Bool}
+-- Where the words of an accepted table's templates stand.
+use Rattle.std.proofs.Common.{◌≡◌, ℕ, ◌+◌, ◌<◌, ◌&&◌, Bool, true, cond, leb, Some, None, List, length, get_or, arith}
 use Rattle.std.proofs.lemmas.Bool.Decides.{nat_tests}
-use Rattle.std.specs.Result.{result_err}
-use Rattle.layouts.specs.Table.{Accepted, begins, due, entry_said}
+use Rattle.layouts.specs.Table.{Accepted, begins}
 use Rattle.layouts.proofs.Sound.{sound}
 use Rattle.layouts.proofs.TableLaws.{entry_within}
-use Rattle.sources.proofs.SlotLaws.{Small}
 
 pub within : (ws : List ℕ) (c i n : ℕ) → Accepted ws → cond (begins ws c) (Some (get_or ws c 0)) None ≡ Some n → (leb 1 i && leb i n) ≡ true → c + i < length ws
 within ws c i n a e h =
@@ -18,12 +15,3 @@ by_test ws c i n x b e h =
     let s : begins ws c ≡ true = grind (arith, nat_tests) in
     let z : get_or ws c 0 ≡ n = grind (arith, nat_tests) in
     rw (s, z, h)
-
-small_entry : (ws : List ℕ) (k : ℕ) → result_err (entry_said ws k) ≡ None → get_or ws k 0 ≤ 65537
-small_entry ws k e = grind (arith, nat_tests)
-
-pub small : (ws : List ℕ) → Accepted ws → Small ws
-small ws a = λ k h. elim (cases_Bool (eqb (due ws k) 0)) [
-  | inl e ↦ (let s = (sound ws a).sizes k h (grind (arith, nat_tests)) in omega arith)
-  | inr e ↦ (let s = small_entry ws k ((sound ws a).entries k h (grind (arith, nat_tests))) in omega arith)
-]

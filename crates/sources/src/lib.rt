@@ -7,7 +7,6 @@ pub mod lent;
 pub mod mask;
 pub mod over;
 pub mod rule;
-mod slot;
 pub mod source;
 mod spot;
 pub mod starts;

@@ -8,13 +8,19 @@ ghost use Rattle.sources.specs.Errors.{NoTable};
 
 use crate::check::{checked, is_bad_start};
 use crate::error::Failure;
-use crate::slot::Slot;
 use crate::source::TemplateSource;
 use crate::starts::Flagged;
 use crate::words::{P_WORD, TABLE_WORDS, Z_WORD};
 use layouts::entry::Entry;
 use refusals::refusal::Refusal;
 use std::alloc::{AllocError, Global};
+
+// A word of an accepted table, and whether a template begins there.
+#[derive(Clone, Copy)]
+struct Slot {
+    word: u32,
+    begins: bool,
+}
 
 // An accepted table, which answers a question in constant time.
 #[derive(Drop)]
@@ -67,7 +73,10 @@ fn slots(heap: Global, flagged: &Flagged<'_>) -> Result<Vec<Slot>, AllocError>
         .words
         .iter()
         .zip(flagged.starts)
-        .map(|(word, begins)| Slot::new(*word, *begins))
+        .map(|(word, begins)| Slot {
+            word: *word,
+            begins: *begins,
+        })
         .collect(heap)
 }
 
@@ -100,7 +109,7 @@ impl Table {
         ensures { result ≡ cond (begins (words_of self.now) index) (Some (slice_index (words_of self.now) index)) None }
     {
         match self.slots.get(index as usize) {
-            Some(slot) if slot.begins() => Some(slot.word()),
+            Some(Slot { word, begins: true }) => Some(*word),
             _ => None,
         }
     }
@@ -111,7 +120,7 @@ impl Table {
     {
         let n = self.entries_at(code)?;
         if has_word(n, word) {
-            Some(self.slots[code as usize + word as usize].word())
+            Some(self.slots[code as usize + word as usize].word)
         } else {
             None
         }
